@@ -4,6 +4,7 @@ use Prim.Native.Nat.{ℕ, zero, suc, _+_, _^_, _≤_, _<_}
 use mathlib.Core.Path.{_≡_}
 use mathlib.Core.Bool.{Bool, true, false, not}
 use mathlib.Core.Logic.{_⊎_}
+use lib.Dec.{eqb}
 
 -- "A chain is a set of simplices of one dimension": which ranks it holds.
 abbrev pub Chain : Type 0
@@ -22,6 +23,10 @@ a ⊕ b = λ i. differ (a i) (b i)
 -- "The empty chain is a chain."
 abbrev pub empty : Chain
 empty = λ i. false
+
+-- the chain of one simplex
+abbrev pub unit : ℕ → Chain
+unit i = λ j. eqb i j
 
 -- c holds ranks below n only: it is a chain of a dimension that lists n simplices
 abbrev pub Under : ℕ → Chain → Type 0
