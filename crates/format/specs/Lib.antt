@@ -6,3 +6,7 @@ pub mod Reading
 pub mod Answer
 pub mod Writing
 pub mod Promise
+pub mod Listed
+pub mod Matrix
+pub mod Unique
+pub mod Outcome

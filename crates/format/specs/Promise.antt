@@ -26,9 +26,15 @@ pub data AnswerPromise (L : Limits) (job out work : List ℕ) (count : ℕ) (out
 abbrev pub twoNumbers : ℕ → ℕ → ℕ
 twoNumbers upper lower = upper * 2 ^ 32 + lower
 
--- "1 to 11 as above; after them 14, place 0, exactly when less output is lent than the normal form's length"
-pub data WritePromise (out : List ℕ) (result : ℕ) (out′ : List ℕ) : Reading Job → Type 0 where
-  refused-job : (number place : ℕ) → result ≡ twoNumbers number place → out′ ≡ out → WritePromise out result out′ (refused number place)
-  no-room : (j : Job) → length out < length (normalForm j) → result ≡ twoNumbers room 0 → out′ ≡ out → WritePromise out result out′ (accepted j)
-  written : (j : Job) → length (normalForm j) ≤ length out → result ≡ twoNumbers 0 (length (normalForm j)) →
-      out′ ≡ over (normalForm j) out → WritePromise out result out′ (accepted j)
+-- "after them 14, place 0, exactly when less output is lent than the normal form's length", else the normal form
+pub data WrittenJob (j : Job) (out : List ℕ) (result : ℕ) (out′ : List ℕ) : Type 0 where
+  too-short : length out < length (normalForm j) → result ≡ twoNumbers room 0 → out′ ≡ out → WrittenJob j out result out′
+  written : length (normalForm j) ≤ length out → result ≡ twoNumbers 0 (length (normalForm j)) → out′ ≡ over (normalForm j) out → WrittenJob j out result out′
+
+-- "1 to 11 as above", "and a refusal writes nothing"
+abbrev pub Written : Reading Job → (out : List ℕ) (result : ℕ) (out′ : List ℕ) → Type 0
+Written (accepted j) out result out′ = WrittenJob j out result out′
+Written (refused number place) out result out′ = (result ≡ twoNumbers number place) × (out′ ≡ out)
+
+abbrev pub WritePromise : Limits → (job out : List ℕ) (result : ℕ) (out′ : List ℕ) → Type 0
+WritePromise L job = Written (reading L job)

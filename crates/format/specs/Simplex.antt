@@ -86,13 +86,14 @@ unfoldable pub atRank : Rank → Chain
 atRank (ranked i) = unit i
 atRank unlisted = empty
 
-unfoldable pub sumOfRanks : List Simplex → List Simplex → Chain
-sumOfRanks rows [] = empty
-sumOfRanks rows (s ∷ r) = atRank (rank s rows) ⊕ sumOfRanks rows r
+-- the sum of the chains that simplices stand for
+unfoldable pub sumOver : (Simplex → Chain) → List Simplex → Chain
+sumOver chain [] = empty
+sumOver chain (s ∷ l) = chain s ⊕ sumOver chain l
 
 -- "The boundary of a simplex is the sum of its facets, that of a vertex is empty" (no list holds its facet).
 abbrev pub simplexBoundary : List Simplex → Simplex → Chain
-simplexBoundary rows s = sumOfRanks rows (facets s)
+simplexBoundary rows s = sumOver (λ f. atRank (rank f rows)) (facets s)
 
 -- the boundaries of a list's simplices, by rank: the matrix that crate `chains` speaks of
 abbrev pub columns : List Simplex → List Simplex → ℕ → Chain

@@ -24,7 +24,7 @@ a ⊕ b = λ i. differ (a i) (b i)
 abbrev pub empty : Chain
 empty = λ i. false
 
--- the chain of one simplex
+-- the chain that holds rank i and no other
 abbrev pub unit : ℕ → Chain
 unit i = λ j. eqb i j
 
