@@ -10,3 +10,4 @@ pub mod Listed
 pub mod Matrix
 pub mod Unique
 pub mod Outcome
+pub mod Worked

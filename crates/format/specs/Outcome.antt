@@ -5,15 +5,15 @@ use mathlib.Core.Path.{_≡_, refl, sym}
 use mathlib.Core.Logic.{_⊎_, inl, inr}
 use mathlib.Core.List.{List}
 use lib.ListN.{length}
-use Rattle.chains.specs.Chain.{Chain, empty, Under, Fills, SmallestInClass}
+use Rattle.chains.specs.Chain.{Chain, empty, Under, boundary, Fills, SmallestInClass}
 use Rattle.chains.specs.Sum.{under-empty}
 use Rattle.chains.specs.Boundary.{boundary-under}
-use Rattle.chains.specs.Order.{same-or-not}
-use Rattle.chains.specs.Search.{Found, filling-found, smallest-in-class-exists}
+use Rattle.chains.specs.Order.{top-of, same-or-not}
+use Rattle.chains.specs.Search.{Found, search-all, found-same, filling-found, fills-or-not, smallest-in-class-exists}
 use Rattle.format.specs.Numbers.{rimOpen, noFilling}
-use Rattle.format.specs.Simplex.{lower, columns}
+use Rattle.format.specs.Simplex.{lower, columns, rankFrom, atRank, sumOver}
 use Rattle.format.specs.Reading.{Job, Question, fill, class, Reading, accepted, refused}
-use Rattle.format.specs.Answer.{rowDimension, rows, cols, matrix, askedChain, rim, FillsJob, FillAnswer, open-rim, unfilled, patch, ClassAnswer, AnswerTo, Answered, chainRecord, refusalRecord}
+use Rattle.format.specs.Answer.{rowDimension, rows, cols, matrix, askedChain, rim, FillsJob, FillAnswer, open-rim, unfilled, patch, ClassAnswer, AnswerTo, Answered, chainRecord, refusalRecord, membersFrom, verticesOf}
 use Rattle.format.specs.Matrix.{columns-under, chain-under}
 
 module _ (j : Job) where
@@ -56,7 +56,29 @@ module _ (j : Job) where
   answer-told fill = fill-told rim-told
   answer-told class = class-told
 
--- the answer record of a file, read or refused
-unfoldable pub answered-told : (r : Reading Job) → (answer : List ℕ) × Answered r answer
-answered-told (accepted j) = answer-told j (j .question)
-answered-told (refused number place) = (refusalRecord number place, refl)
+-- The answer record of a file, read or refused, open to computation: who unfolds this unfolds all that it is made of.
+unfoldable pub answerOf : (r : Reading Job) → (answer : List ℕ) × Answered r answer
+unfolding
+    answer-told
+    fill-told
+    filled
+    class-told
+    rim-told
+    refusalRecord
+    chainRecord
+    membersFrom
+    verticesOf
+    rankFrom
+    atRank
+    sumOver
+    lower
+    boundary
+    top-of
+    same-or-not
+    search-all
+    found-same
+    filling-found
+    fills-or-not
+    smallest-in-class-exists
+answerOf (accepted j) = answer-told j (j .question)
+answerOf (refused number place) = (refusalRecord number place, refl)
