@@ -19,7 +19,8 @@ smallest-unique Has c d sc sd = go (sc .least d (sd .has)) (sd .least c (sc .has
     go (inr s) (inr t) = absurd (smaller-asymmetric c d s t)
 
 -- The smallest chain depends only on which chains have the property.
-pub smallest-same : (Has Has′ : Chain → Type 0) (c : Chain) → ((d : Chain) → Has d ↔ Has′ d) → Smallest Has c → Smallest Has′ c
+pub smallest-same : (Has Has′ : Chain → Type 0) (c : Chain) → ((d : Chain) → Has d ↔ Has′ d) → Smallest Has c
+    → Smallest Has′ c
 smallest-same Has Has′ c same s =
     record { has = same c .0 (s .has); least = λ d h. s .least d (same d .1 h) }
 

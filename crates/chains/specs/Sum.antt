@@ -88,10 +88,6 @@ only-sum false q a = refl
 only-sum true false a = sym (sum-empty a)
 only-sum true true a = sym (sum-self a)
 
-pub only-of-sum : (p : Bool) (a b : Chain) → only p (a ⊕ b) ≡ only p a ⊕ only p b
-only-of-sum false a b = refl
-only-of-sum true a b = refl
-
 pub only-empty : (p : Bool) → only p empty ≡ empty
 only-empty false = refl
 only-empty true = refl

@@ -1,13 +1,20 @@
 -- Document 01 as definitions: what a job file means, what its answer is, and what each public call does to each
--- lent byte. A reader who believes these files and crate `chains` needs no other to know what is promised.
+-- lent byte. A reader who believes the first six files and crate `chains` needs no other to know what is promised.
 pub mod Numbers
 pub mod Simplex
 pub mod Reading
 pub mod Answer
 pub mod Writing
 pub mod Promise
+-- laws of the definitions
 pub mod Listed
+pub mod Lookup
+pub mod Moves
+pub mod Facets
 pub mod Matrix
+-- no second outcome meets a promise, and every file has one
 pub mod Unique
 pub mod Outcome
 pub mod Worked
+-- what is known of every accepted job
+pub mod Sound

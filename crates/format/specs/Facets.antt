@@ -1,0 +1,32 @@
+-- The facets of a simplex by the number of the vertex that each leaves out. Dictionary order leaves the last vertex out
+-- first: why, a facet that keeps the first vertex comes before the one that leaves it out.
+use Prim.Native.Nat.{ℕ, zero, suc}
+use mathlib.Core.Path.{_≡_, refl, sym, ap, ap₂, _∙_}
+use mathlib.Core.List.{List, [], _∷_, _++_, map, map-append, map-map}
+use lib.ListN.{length}
+use Rattle.format.specs.Simplex.{Simplex, facets}
+use Rattle.format.specs.Reading.{without}
+
+-- the numbers below n, falling
+unfoldable pub falling : ℕ → List ℕ
+falling zero = []
+falling (suc n) = n ∷ falling n
+
+falling-up : (n : ℕ) → falling (suc n) ≡ map suc (falling n) ++ (0 ∷ [])
+unfolding falling
+falling-up zero = refl
+falling-up (suc n) = ap (_∷_ (suc n)) (falling-up n)
+
+-- the facets that leave out one of the first n vertices, the last of them first
+abbrev pub facetsBelow : ℕ → Simplex → List Simplex
+facetsBelow n s = map (λ (k : ℕ). without k s) (falling n)
+
+pub facets-below : (s : Simplex) → facets s ≡ facetsBelow (length s) s
+unfolding facets
+facets-below [] = unfold falling in refl
+facets-below (a ∷ s) =
+    let leave : ℕ → Simplex = λ k. without k (a ∷ s) in
+    let below : List ℕ = falling (length s) in
+    ap (λ (l : List Simplex). map (_∷_ a) l ++ (s ∷ [])) (facets-below s) ∙
+    ap (λ (l : List Simplex). l ++ (s ∷ [])) (map-map (_∷_ a) (λ (k : ℕ). without k s) below ∙ sym (map-map leave suc below)) ∙
+    sym (map-append leave (map suc below) (0 ∷ [])) ∙ ap (map leave) (sym (falling-up (length s)))
