@@ -18,3 +18,4 @@ pub mod Outcome
 pub mod Worked
 -- what is known of every accepted job
 pub mod Sound
+pub mod Accepted

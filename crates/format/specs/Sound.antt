@@ -10,7 +10,7 @@ use native.Mathlib.Nat.{le-of-suc-le-suc, not-suc-le-zero}
 use lib.ListN.{length, getD, take, drop, take-append-drop, length-take, length-drop}
 use lib.Dec.{eqb, leb, ltb, lit≤}
 use borrow.Author.Tests.{eqb-true, leb-true, leb-false, ltb-true, ltb-false, not-true, not-false}
-use Rattle.format.specs.Numbers.{Limits, small, edgesKind, trianglesKind, tetrahedraKind}
+use Rattle.format.specs.Numbers.{Limits, small, edgesKind, trianglesKind, tetrahedraKind, vertex, twice, face}
 use Rattle.format.specs.Simplex.{Simplex, SimplexSet, Complex, soundSimplex, facets, same, listed, allListed, simplices, vertexList}
 use Rattle.format.specs.Reading.{Reading, accepted, refused, refuseIf, _andThen_, Head, Question, Record, Listing, Chosen, Job, Header, recordAt, recordFrom, headerAt, readItems, items, itemsOf, owedFacets, readList, listFits, moved, without, withList, listOfKind, edited, readEdits, readHead, headOf, headSound, dimensionFits, chainDimension, readChain, chosenBy, risingBelow, positionsOf, named, readSteps, steps, walkChain, afterLists, afterHead, reading}
 use Rattle.format.specs.Listed.{true-not-false, and-true, same-refl, same-equal}
@@ -93,7 +93,7 @@ last-listed t s l e = go (listed t l) refl
     go true p = inl p
     go false p = inr (same-equal t s (sym (or-false (same t s)) ∙ ap (λ x. x || (same t s || false)) (sym p) ∙ sym (listed-append t l (s ∷ [])) ∙ e))
 
-sound-empty : (width v : ℕ) (faces : List Simplex) → SoundList width v faces []
+pub sound-empty : (width v : ℕ) (faces : List Simplex) → SoundList width v faces []
 unfolding listed copies
 sound-empty width v faces =
     record {
@@ -126,18 +126,34 @@ sound-more width v faces l s before w o f c =
         omega (arith, copies-append t l (s ∷ []), last t true e)
     once t false e = omega (arith, copies-append t l (s ∷ []), last t false e, before .once t)
 
--- ITEM BY ITEM: what was read is a sound list.
-items-sound : (width v : ℕ) (faces : List Simplex) (at : ℕ) (before : List Simplex) (rest : List Simplex) (l : List Simplex) → ((s : Simplex) → listed s rest ≡ true → length s ≡ width) → SoundList width v faces before → readItems width v faces at before rest ≡ accepted l → SoundList width v faces l
+-- ITEM BY ITEM. An item that was accepted passed rules 6, 7 and 8, and the rest was accepted behind it.
+pub record ItemPassed (width v : ℕ) (faces : List Simplex) (at : ℕ) (before : List Simplex) (s : Simplex) (rest l : List Simplex) : Type 0 where
+  pub sound : soundSimplex v s ≡ true
+  pub fresh : listed s before ≡ false
+  pub closed : allListed (owedFacets width s) faces ≡ true
+  pub later : readItems width v faces (at + width) (before ++ (s ∷ [])) rest ≡ accepted l
+
+pub item-passed : (width v : ℕ) (faces : List Simplex) (at : ℕ) (before : List Simplex) (s : Simplex) (rest l : List Simplex) → readItems width v faces at before (s ∷ rest) ≡ accepted l → ItemPassed width v faces at before s rest l
+unfolding readItems
+item-passed width v faces at before s rest l e =
+    let one = not-refused (not (soundSimplex v s)) vertex at _ l e in
+    let two = not-refused (listed s before) twice at _ l (one .1) in
+    let three = not-refused (not (allListed (owedFacets width s) faces)) face at _ l (two .1) in
+    record {
+      sound = not-false (soundSimplex v s) (one .0);
+      fresh = two .0;
+      closed = not-false (allListed (owedFacets width s) faces) (three .0);
+      later = three .1;
+    }
+
+-- What was read is a sound list.
+pub items-sound : (width v : ℕ) (faces : List Simplex) (at : ℕ) (before : List Simplex) (rest : List Simplex) (l : List Simplex) → ((s : Simplex) → listed s rest ≡ true → length s ≡ width) → SoundList width v faces before → readItems width v faces at before rest ≡ accepted l → SoundList width v faces l
 unfolding readItems listed
 items-sound width v faces at before [] l wide sound e = subst (SoundList width v faces) (same-accepted before l e) sound
 items-sound width v faces at before (s ∷ rest) l wide sound e =
-    let one = not-refused _ _ _ _ l e in
-    let two = not-refused _ _ _ _ l (one .1) in
-    let three = not-refused _ _ _ _ l (two .1) in
-    items-sound width v faces (at + width) (before ++ (s ∷ [])) rest l
-    (λ t h. wide t (rw (h, or-true)))
-    (sound-more width v faces before s sound (wide s (rw (same-refl s))) (not-false _ (one .0)) (two .0) (not-false _ (three .0)))
-    (three .1)
+    let it = item-passed width v faces at before s rest l e in
+    items-sound width v faces (at + width) (before ++ (s ∷ [])) rest l (λ t h. wide t (rw (h, or-true)))
+    (sound-more width v faces before s sound (wide s (rw (same-refl s))) (it .sound) (it .fresh) (it .closed)) (it .later)
 
 -- AN EDIT keeps a list sound, and keeps what is listed over it sound.
 pub sound-moved : (width v : ℕ) (faces l : List Simplex) (i k : ℕ) → SoundList width v faces l → SoundList width v faces (moved i k l)
