@@ -19,3 +19,4 @@ pub mod Worked
 -- what is known of every accepted job
 pub mod Sound
 pub mod Accepted
+pub mod Demands
