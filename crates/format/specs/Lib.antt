@@ -20,3 +20,7 @@ pub mod Worked
 pub mod Sound
 pub mod Accepted
 pub mod Demands
+-- the round trip: a job's normal form reads back as the job
+pub mod Bytes
+pub mod Normal
+pub mod RoundTrip

@@ -1,0 +1,2 @@
+-- What the head reader's answers mean in the words of crate `format`.
+pub mod Meaning
