@@ -24,3 +24,5 @@ pub mod Demands
 pub mod Bytes
 pub mod Normal
 pub mod RoundTrip
+-- sets of simplices as marks by rank
+pub mod Marks

@@ -34,7 +34,7 @@ unfoldable pub copies : Simplex → List Simplex → ℕ
 copies s [] = 0
 copies s (t ∷ l) = cond (same s t) 1 0 + copies s l
 
-copies-append : (s : Simplex) (l m : List Simplex) → copies s (l ++ m) ≡ copies s l + copies s m
+pub copies-append : (s : Simplex) (l m : List Simplex) → copies s (l ++ m) ≡ copies s l + copies s m
 unfolding copies
 copies-append s [] m = omega arith
 copies-append s (t ∷ l) m = omega (arith, copies-append s l m)

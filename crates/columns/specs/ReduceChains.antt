@@ -1,0 +1,137 @@
+-- The reduction on chains. The halves of a sum are sums, so each row does to the two chains in hand what it does to the
+-- bytes: at a row that is held and whose slot is occupied, the slot's chains are added.
+use Prim.Native.Nat.{ℕ, zero, suc, _*_, _≤_, _<_}
+use mathlib.Core.Path.{_≡_, refl, sym, ap, ap₂, _∙_, subst, subst₂, fun-ext}
+use mathlib.Core.Bool.{Bool, true, false, _&&_}
+use mathlib.Core.List.{List}
+use native.Mathlib.Omega.{arith}
+use lib.ListN.{length}
+use Rattle.chains.specs.Chain.{Chain, _⊕_, empty, only}
+use Rattle.columns.specs.Column.{xorBytes}
+use Rattle.columns.specs.ColumnLaws.{differ-false, length-xor}
+use Rattle.columns.specs.Slot.{roomOf, chainR, chainV, slot, occupiedAt}
+use Rattle.columns.specs.SlotLaws.{length-slot, chainR-xor, chainV-xor}
+use Rattle.columns.specs.Reduce.{heldAt, pick, redRow, redBytes, Settles, slotRows, slotColumns, occupiedOnly, red, gather, Ends}
+use Rattle.columns.specs.ReduceLaws.{length-row, row-add, row-not-held, row-vacant, unstuck-occupied, stuck-held, stuck-vacant, by-rows, by-settling}
+use Rattle.columns.specs.declared.Highest.{Highest}
+
+sum-empty : (c : Chain) → c ⊕ empty ≡ c
+sum-empty c = fun-ext (λ i. differ-false (c i))
+
+-- one half of the pair, over which sums are sums of chains, follows a row on chains
+row-chain : (half : List ℕ → Chain) (h : ℕ) (work : List ℕ) (r : ℕ) (cur : List ℕ)
+    → half (xorBytes cur (slot h work r)) ≡ half cur ⊕ half (slot h work r)
+    → half (redRow h work r cur) ≡ half cur ⊕ only (heldAt h r cur) (only (occupiedAt h work r) (half (slot h work r)))
+unfolding redRow
+row-chain half h work r cur sum = go (heldAt h r cur) (occupiedAt h work r)
+  where
+    go : (a b : Bool) → half (pick (a && b) (xorBytes cur (slot h work r)) cur) ≡ half cur ⊕ only a (only b (half (slot h work r)))
+    go true true = sum
+    go true false = sym (sum-empty (half cur))
+    go false b = sym (sum-empty (half cur))
+
+-- the slots that are occupied, as the reduction sees them
+abbrev pub rowsIn : ℕ → List ℕ → ℕ → Chain
+rowsIn h work = occupiedOnly (slotRows h work) (slotRows h work)
+
+abbrev pub columnsIn : ℕ → List ℕ → ℕ → Chain
+columnsIn h work = occupiedOnly (slotRows h work) (slotColumns h work)
+
+module _ (h : ℕ) (work : List ℕ) (room : roomOf h ≤ length work) where
+  -- ---- one row
+
+  module _ (r : ℕ) (cur : List ℕ) (low : r < 8 * h) (whole : length cur ≡ 2 * h) where
+    pub chainR-row : chainR h (redRow h work r cur) ≡ chainR h cur ⊕ only (heldAt h r cur) (rowsIn h work r)
+    chainR-row = row-chain (chainR h) h work r cur (chainR-xor h cur (slot h work r) whole (length-slot h work r low room))
+
+    pub chainV-row : chainV h (redRow h work r cur) ≡ chainV h cur ⊕ only (heldAt h r cur) (columnsIn h work r)
+    chainV-row = row-chain (chainV h) h work r cur (chainV-xor h cur (slot h work r) whole (length-slot h work r low room))
+
+  -- ---- all rows: the first half is reduced, and the second gathers the columns of the slots that are added
+
+  pub chainR-red : (n : ℕ) (cur : List ℕ) → n ≤ 8 * h → length cur ≡ 2 * h
+      → chainR h (redBytes h work n cur) ≡ red (rowsIn h work) n (chainR h cur)
+  unfolding redBytes red
+  chainR-red zero cur l whole = refl
+  chainR-red (suc n) cur l whole =
+      chainR-red n (redRow h work n cur) (omega arith) (length-row h work n cur ∙ whole)
+      ∙ ap (red (rowsIn h work) n) (chainR-row n cur l whole)
+
+  pub chainV-red : (n : ℕ) (cur : List ℕ) → n ≤ 8 * h → length cur ≡ 2 * h
+      → chainV h (redBytes h work n cur) ≡ gather (rowsIn h work) (columnsIn h work) n (chainR h cur) (chainV h cur)
+  unfolding redBytes gather
+  chainV-red zero cur l whole = refl
+  chainV-red (suc n) cur l whole =
+      chainV-red n (redRow h work n cur) (omega arith) (length-row h work n cur ∙ whole)
+      ∙ ap₂ (gather (rowsIn h work) (columnsIn h work) n) (chainR-row n cur l whole) (chainV-row n cur l whole)
+
+  -- ---- what is kept by the rows: P speaks of the rows that are left and of the two chains in hand
+
+  module _ (P : ℕ → Chain → Chain → Type 0) (n : ℕ) (low : n ≤ 8 * h)
+      (skip : (r : ℕ) (c v : Chain) → r < n → P (suc r) c v → c r ≡ false → P r c v)
+      (add : (r : ℕ) (c v : Chain) → r < n → P (suc r) c v → c r ≡ true → slotRows h work r r ≡ true
+      → P r (c ⊕ slotRows h work r) (v ⊕ slotColumns h work r)) where
+    -- P of the chains that a pair of columns holds
+    abbrev In : ℕ → List ℕ → Type 0
+    In r c = (length c ≡ 2 * h) × P r (chainR h c) (chainV h c)
+
+    in-row : (r : ℕ) (c : List ℕ) → r < n → In (suc r) c → (heldAt h r c ≡ true → occupiedAt h work r ≡ true)
+        → In r (redRow h work r c)
+    in-row r c l p free = go (heldAt h r c) refl
+      where
+        sized : length (slot h work r) ≡ 2 * h
+        sized = length-slot h work r (omega arith) room
+
+        go : (b : Bool) → heldAt h r c ≡ b → In r (redRow h work r c)
+        go false e = subst (In r) (sym (row-not-held h work r c e)) (p .0, skip r _ _ l (p .1) e)
+        go true e = subst (In r) (sym (row-add h work r c e (free e))) (
+          length-xor c (slot h work r) ∙ p .0,
+          subst₂ (P r) (sym (chainR-xor h c (slot h work r) (p .0) sized)) (sym (chainV-xor h c (slot h work r) (p .0) sized))
+              (add r _ _ l (p .1) e (free e)),
+        )
+
+    -- the reduction that stops where it is stuck
+    pub settle-chains : (cur : List ℕ) (answer : Highest) (left : List ℕ) → Settles h work n cur answer left
+        → length cur ≡ 2 * h → P n (chainR h cur) (chainV h cur)
+        → Ends P (slotRows h work) answer (chainR h left) (chainV h left)
+    settle-chains cur answer left s whole top =
+        subst₂ (λ (a : Highest) (l : List ℕ). Ends P (slotRows h work) a (chainR h l) (chainV h l))
+        (sym (s .where-stuck)) (sym (s .what-left))
+        (by-settling h work In (λ t. Ends P (slotRows h work) (t .at) (chainR h (t .cur)) (chainV h (t .cur))) n cur
+        (λ r c l p q. in-row r c l p (unstuck-occupied h work r c q))
+        (λ r c l p q. (p .1, stuck-held h work r c q, stuck-vacant h work r c q))
+        (λ c p. p .1)
+        (whole, top))
+
+    -- the full reduction, which also goes past the rows where it is stuck
+    pub red-chains : ((r : ℕ) (c v : Chain) → r < n → P (suc r) c v → c r ≡ true → slotRows h work r r ≡ false → P r c v)
+        → (cur : List ℕ) → length cur ≡ 2 * h → P n (chainR h cur) (chainV h cur)
+        → P 0 (chainR h (redBytes h work n cur)) (chainV h (redBytes h work n cur))
+    red-chains past cur whole top = by-rows h work In n cur row (whole, top) .1
+      where
+        row : (r : ℕ) (c : List ℕ) → r < n → In (suc r) c → In r (redRow h work r c)
+        row r c l p = go (occupiedAt h work r) refl (heldAt h r c) refl
+          where
+            go : (b : Bool) → occupiedAt h work r ≡ b → (a : Bool) → heldAt h r c ≡ a → In r (redRow h work r c)
+            go true e a f = in-row r c l p (λ q. e)
+            go false e true f = subst (In r) (sym (row-vacant h work r c e)) (p .0, past r _ _ l (p .1) f e)
+            go false e false f = subst (In r) (sym (row-vacant h work r c e)) (p .0, skip r _ _ l (p .1) f)
+
+-- ---- slots that do not hold their own row are empty: then nothing need be masked
+
+module _ (R : ℕ → Chain) (n : ℕ) (vacant : (r : ℕ) → r < n → R r r ≡ false → R r ≡ empty) where
+  occupied-all : (r : ℕ) → r < n → occupiedOnly R R r ≡ R r
+  occupied-all r l = go (R r r) refl
+    where
+      go : (b : Bool) → R r r ≡ b → only b (R r) ≡ R r
+      go true e = refl
+      go false e = sym (vacant r l e)
+
+  pub red-all : (c : Chain) → red (occupiedOnly R R) n c ≡ red R n c
+  unfolding red
+  red-all c = below n c (omega arith)
+    where
+      below : (m : ℕ) (c : Chain) → m ≤ n → red (occupiedOnly R R) m c ≡ red R m c
+      below zero c l = refl
+      below (suc m) c l = below m (c ⊕ only (c m) (occupiedOnly R R m)) (omega arith)
+          ∙ ap (λ (x : Chain). red R m (c ⊕ only (c m) x)) (occupied-all m l)

@@ -1,0 +1,176 @@
+-- Laws of the reduction. A row either leaves the pair in hand as it is or adds a slot to it, so what holds at the top
+-- and is kept by each row holds at the bottom.
+use Prim.Native.Nat.{ℕ, zero, suc, _≤_, _<_}
+use mathlib.Core.Path.{_≡_, refl, sym, ap, _∙_, subst}
+use mathlib.Core.Bool.{Bool, true, false, not, _&&_, false≢true}
+use mathlib.Core.List.{List}
+use native.Mathlib.Decide.{le-ind}
+use native.Mathlib.Omega.{arith}
+use lib.ListN.{length}
+use Rattle.columns.specs.Column.{xorBytes}
+use Rattle.columns.specs.ColumnLaws.{length-xor}
+use Rattle.columns.specs.Slot.{slot, occupiedAt}
+use Rattle.columns.specs.Reduce.{heldAt, pick, redRow, redBytes, stuckAt, Settled, settled, rowsLeft}
+use Rattle.columns.specs.declared.Highest.the-variants.{At, Nothing}
+
+-- ---- one row
+
+and-false : (b : Bool) → b && false ≡ false
+and-false true = refl
+and-false false = refl
+
+module _ (h : ℕ) (work : List ℕ) (r : ℕ) (cur : List ℕ) where
+  pub row-add : heldAt h r cur ≡ true → occupiedAt h work r ≡ true → redRow h work r cur ≡ xorBytes cur (slot h work r)
+  unfolding redRow
+  row-add p q = rw (p, q) refl
+
+  pub row-not-held : heldAt h r cur ≡ false → redRow h work r cur ≡ cur
+  unfolding redRow
+  row-not-held p = rw p refl
+
+  pub row-vacant : occupiedAt h work r ≡ false → redRow h work r cur ≡ cur
+  unfolding redRow
+  row-vacant q = rw (q, and-false) refl
+
+  pub stuck : heldAt h r cur ≡ true → occupiedAt h work r ≡ false → stuckAt h work r cur ≡ true
+  unfolding stuckAt
+  stuck p q = rw (p, q) refl
+
+  pub not-stuck : occupiedAt h work r ≡ true → stuckAt h work r cur ≡ false
+  unfolding stuckAt
+  not-stuck q = rw (q, and-false) refl
+
+  pub not-stuck-not-held : heldAt h r cur ≡ false → stuckAt h work r cur ≡ false
+  unfolding stuckAt
+  not-stuck-not-held p = rw p refl
+
+  -- what it means to be stuck
+  pub stuck-held : stuckAt h work r cur ≡ true → heldAt h r cur ≡ true
+  unfolding stuckAt
+  stuck-held e = both (heldAt h r cur) (not (occupiedAt h work r)) e
+    where
+      both : (a b : Bool) → a && b ≡ true → a ≡ true
+      both true b e = refl
+      both false b e = e
+
+  pub stuck-vacant : stuckAt h work r cur ≡ true → occupiedAt h work r ≡ false
+  unfolding stuckAt
+  stuck-vacant e = both (heldAt h r cur) (occupiedAt h work r) e
+    where
+      both : (a b : Bool) → a && not b ≡ true → b ≡ false
+      both true true e = sym e
+      both true false e = refl
+      both false b e = absurd (false≢true e)
+
+  -- a row that is held and not stuck has its slot occupied
+  pub unstuck-occupied : stuckAt h work r cur ≡ false → heldAt h r cur ≡ true → occupiedAt h work r ≡ true
+  unfolding stuckAt
+  unstuck-occupied e p = other (heldAt h r cur) (occupiedAt h work r) e p
+    where
+      other : (a b : Bool) → a && not b ≡ false → a ≡ true → b ≡ true
+      other true true e p = refl
+      other true false e p = absurd (false≢true (sym e))
+      other false b e p = absurd (false≢true p)
+
+  -- a stuck row is passed over by the full reduction
+  pub row-stuck : stuckAt h work r cur ≡ true → redRow h work r cur ≡ cur
+  row-stuck e = row-vacant (stuck-vacant e)
+
+  -- a row keeps the length
+  pub length-row : length (redRow h work r cur) ≡ length cur
+  unfolding redRow
+  length-row = go (heldAt h r cur && occupiedAt h work r)
+    where
+      go : (b : Bool) → length (pick b (xorBytes cur (slot h work r)) cur) ≡ length cur
+      go true = length-xor cur (slot h work r)
+      go false = refl
+
+-- ---- all rows
+
+module _ (h : ℕ) (work : List ℕ) where
+  -- what each row keeps, the reduction keeps
+  pub by-rows : (P : ℕ → List ℕ → Type 0) (n : ℕ) (cur : List ℕ)
+      → ((r : ℕ) (c : List ℕ) → r < n → P (suc r) c → P r (redRow h work r c)) → P n cur → P 0 (redBytes h work n cur)
+  unfolding redBytes
+  by-rows P zero cur step top = top
+  by-rows P (suc n) cur step top =
+      by-rows P n (redRow h work n cur) (λ r c l. step r c (omega arith)) (step n cur (omega arith) top)
+
+  pub length-red : (n : ℕ) (cur : List ℕ) → length (redBytes h work n cur) ≡ length cur
+  length-red n cur = by-rows (λ r c. length c ≡ length cur) n cur (λ r c l e. length-row h work r c ∙ e) refl
+
+  -- rows that are not held are passed over
+  pub red-skip : (k n : ℕ) (cur : List ℕ) → k ≤ n → ((j : ℕ) → k ≤ j → j < n → heldAt h j cur ≡ false)
+      → redBytes h work n cur ≡ redBytes h work k cur
+  unfolding redBytes
+  red-skip k n cur l none =
+      le-ind (λ (m : ℕ). ((j : ℕ) → k ≤ j → j < m → heldAt h j cur ≡ false) → redBytes h work m cur ≡ redBytes h work k cur)
+      (λ q. refl)
+      (λ m l ih q. ap (redBytes h work m) (row-not-held h work m cur (q m l (omega arith))) ∙ ih (λ j a b. q j a (omega arith)))
+      n l none
+
+  -- ---- up to the first row that is stuck
+
+  pub settled-stuck : (r : ℕ) (cur : List ℕ) → stuckAt h work r cur ≡ true
+      → settled h work (suc r) cur ≡ record { at = At r; cur = cur }
+  unfolding settled
+  settled-stuck r cur e = rw e refl
+
+  pub settled-on : (r : ℕ) (cur : List ℕ) → stuckAt h work r cur ≡ false
+      → settled h work (suc r) cur ≡ settled h work r (redRow h work r cur)
+  unfolding settled
+  settled-on r cur e = rw e refl
+
+  pub settled-skip : (k n : ℕ) (cur : List ℕ) → k ≤ n → ((j : ℕ) → k ≤ j → j < n → heldAt h j cur ≡ false)
+      → settled h work n cur ≡ settled h work k cur
+  settled-skip k n cur l none =
+      le-ind (λ (m : ℕ). ((j : ℕ) → k ≤ j → j < m → heldAt h j cur ≡ false) → settled h work m cur ≡ settled h work k cur)
+      (λ q. refl)
+      (λ m l ih q.
+      settled-on m cur (not-stuck-not-held h work m cur (q m l (omega arith)))
+      ∙ ap (settled h work m) (row-not-held h work m cur (q m l (omega arith)))
+      ∙ ih (λ j a b. q j a (omega arith)))
+      n l none
+
+  -- what each row keeps holds where the reduction settles: stuck at a row, or through with all of them
+  pub by-settling : (P : ℕ → List ℕ → Type 0) (Q : Settled → Type 0) (n : ℕ) (cur : List ℕ)
+      → ((r : ℕ) (c : List ℕ) → r < n → P (suc r) c → stuckAt h work r c ≡ false → P r (redRow h work r c))
+      → ((r : ℕ) (c : List ℕ) → r < n → P (suc r) c → stuckAt h work r c ≡ true → Q (record { at = At r; cur = c }))
+      → ((c : List ℕ) → P 0 c → Q (record { at = Nothing; cur = c })) → P n cur → Q (settled h work n cur)
+  unfolding settled
+  by-settling P Q zero cur step stop end top = end cur top
+  by-settling P Q (suc n) cur step stop end top =
+      go (stuckAt h work n cur) refl
+      (by-settling P Q n (redRow h work n cur) (λ r c l. step r c (omega arith)) (λ r c l. stop r c (omega arith)) end)
+    where
+      go : (b : Bool) → stuckAt h work n cur ≡ b → (P n (redRow h work n cur) → Q (settled h work n (redRow h work n cur)))
+          → Q (settled h work (suc n) cur)
+      go true e rec = subst Q (sym (settled-stuck n cur e)) (stop n cur (omega arith) top e)
+      go false e rec = subst Q (sym (settled-on n cur e)) (rec (step n cur (omega arith) top e))
+
+  -- the full reduction goes on from where it settled
+  pub settled-red : (n : ℕ) (cur : List ℕ)
+      → redBytes h work n cur ≡ redBytes h work (rowsLeft (settled h work n cur .at)) (settled h work n cur .cur)
+  unfolding redBytes
+  settled-red n cur =
+      by-settling (λ r c. redBytes h work n cur ≡ redBytes h work r c)
+      (λ s. redBytes h work n cur ≡ redBytes h work (rowsLeft (s .at)) (s .cur)) n cur
+      (λ r c l e q. e)
+      (λ r c l e q. e ∙ ap (redBytes h work r) (row-stuck h work r c q))
+      (λ c e. e)
+      refl
+
+  pub length-settled : (n : ℕ) (cur : List ℕ) → length (settled h work n cur .cur) ≡ length cur
+  length-settled n cur =
+      by-settling (λ r c. length c ≡ length cur) (λ s. length (s .cur) ≡ length cur) n cur
+      (λ r c l e q. length-row h work r c ∙ e) (λ r c l e q. e) (λ c e. e) refl
+
+  -- where it is stuck
+  pub settled-at : (n : ℕ) (cur : List ℕ) (r : ℕ) → settled h work n cur .at ≡ At r
+      → (r < n) × (stuckAt h work r (settled h work n cur .cur) ≡ true)
+  settled-at n cur r =
+      by-settling (λ m c. Unit {0}) (λ s. s .at ≡ At r → (r < n) × (stuckAt h work r (s .cur) ≡ true)) n cur
+      (λ m c l u q. tt)
+      (λ m c l u q e. let same : m ≡ r = cc in (omega arith, subst (λ (k : ℕ). stuckAt h work k c ≡ true) same q))
+      (λ c u e. absurd (let z : _≡_ {A = ℕ} 0 1 = cc in omega arith))
+      tt

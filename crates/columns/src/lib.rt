@@ -1,0 +1,181 @@
+// Columns of bits in lent bytes: bit k of byte j is rank 8·j + k. The work memory is 8·h slots of
+// 2·h bytes (specs/Slot.antt); slot r is for the reduced column whose highest rank is r.
+ghost use mathlib.Core.Path.{_≡_};
+ghost use Prim.Native.Nat.{_+_, _*_, _≤_, _<_, min};
+ghost use lib.ListN.{length, getD, replicate};
+ghost use Rattle.columns.specs.Column.{bitAt, chainOf, xorBytes, flipped};
+ghost use Rattle.columns.specs.Slot.{roomOf, slot, occupiedAt, storeSlot};
+ghost use Rattle.columns.specs.Search.{highestBelow};
+ghost use Rattle.columns.specs.Reduce.{redBytes, Settles, Inserts};
+
+// Byte `at` of a column; past the end it is 0.
+fn byte_at(col: &[u8], at: usize) -> u8
+    ensures { λ r. ⌜ r ≡ getD (now (col .entry)) at 0 ⌝ }
+{
+    if at < col.len() { col[at] } else { 0 }
+}
+
+// Whether the column holds rank i.
+pub fn test(col: &[u8], i: usize) -> bool
+    ensures { λ r. ⌜ r ≡ bitAt (now (col .entry)) i ⌝ }
+{
+    (byte_at(col, i / 8) >> (i % 8)) % 2 == 1
+}
+
+// Turns rank i over: puts it in, or takes it out. Past the end nothing changes.
+pub fn flip(col: &mut [u8], i: usize)
+    ensures { λ _. ⌜ now (col .exit) ≡ flipped (now (col .entry)) i ⌝ }
+{
+    let at = i / 8;
+    if at < col.len() {
+        col[at] = col[at] ^ (1u8 << (i % 8));
+    }
+}
+
+// The smaller of two lengths.
+fn shorter(a: usize, b: usize) -> usize
+    ensures { λ r. ⌜ r ≡ min a b ⌝ }
+{
+    if a < b { a } else { b }
+}
+
+// Adds the column src to dst.
+pub fn add(dst: &mut [u8], src: &[u8])
+    ensures { λ _. ⌜ now (dst .exit) ≡ xorBytes (now (dst .entry)) (now (src .entry)) ⌝ }
+{
+    let n = shorter(dst.len(), src.len());
+    let mut i = 0;
+    while i < n {
+        dst[i] = dst[i] ^ src[i];
+        i += 1;
+    }
+}
+
+// Makes every byte zero.
+pub fn clear(bytes: &mut [u8])
+    ensures { λ _. ⌜ now (bytes .exit) ≡ replicate (length (now (bytes .entry))) 0 ⌝ }
+{
+    let mut i = 0;
+    while i < bytes.len() {
+        bytes[i] = 0;
+        i += 1;
+    }
+}
+
+// What a search for the highest rank finds.
+pub enum Highest {
+    At(usize),
+    Nothing,
+}
+
+// The highest rank below `from` that the column holds.
+pub fn next_down(col: &[u8], from: usize) -> Highest
+    ensures { λ r. ⌜ r ≡ highestBelow (chainOf (now (col .entry))) from ⌝ }
+{
+    let mut i = from;
+    while i > 0 {
+        let at = (i - 1) / 8;
+        let byte = byte_at(col, at);
+        if byte == 0 {
+            i = at * 8;
+        } else {
+            i -= 1;
+            if (byte >> (i % 8)) % 2 == 1 {
+                return Highest::At(i);
+            }
+        }
+    }
+    Highest::Nothing
+}
+
+// Whether slot r holds a reduced column.
+pub fn occupied(work: &[u8], h: usize, r: usize) -> bool
+    requires { ⌜ r < 8 * h ⌝ }
+    requires { ⌜ roomOf h ≤ length (now work) ⌝ }
+    ensures { λ b. ⌜ b ≡ occupiedAt h (now (work .entry)) r ⌝ }
+{
+    let at = r * (2 * h) + r / 8;
+    (work[at] >> (r % 8)) % 2 == 1
+}
+
+// Adds slot r to the pair of columns in hand.
+pub fn add_slot(cur: &mut [u8], work: &[u8], h: usize, r: usize)
+    requires { ⌜ r < 8 * h ⌝ }
+    requires { ⌜ roomOf h ≤ length (now work) ⌝ }
+    ensures { λ _. ⌜ now (cur .exit) ≡ xorBytes (now (cur .entry)) (slot h (now (work .entry)) r) ⌝ }
+{
+    let size = 2 * h;
+    let from = r * size;
+    let to = from + size;
+    add(cur, &work[from..to]);
+}
+
+// Puts the pair of columns in hand into slot r.
+pub fn store_slot(work: &mut [u8], cur: &[u8], h: usize, r: usize)
+    requires { ⌜ r < 8 * h ⌝ }
+    requires { ⌜ roomOf h ≤ length (now work) ⌝ }
+    requires { ⌜ 2 * h ≤ length (now cur) ⌝ }
+    ensures { λ _. ⌜ now (work .exit) ≡ storeSlot h (now (work .entry)) r (now (cur .entry)) ⌝ }
+{
+    let size = 2 * h;
+    let from = r * size;
+    let mut j = 0;
+    while j < size {
+        work[from + j] = cur[j];
+        j += 1;
+    }
+}
+
+// Reduces the pair in hand by the slots, from row `rows` - 1 down, until it holds a row whose slot
+// is vacant, and says which.
+pub fn settle(cur: &mut [u8], work: &[u8], h: usize, rows: usize) -> Highest
+    requires { ⌜ rows ≤ 8 * h ⌝ }
+    requires { ⌜ roomOf h ≤ length (now work) ⌝ }
+    requires { ⌜ length (now cur) ≡ 2 * h ⌝ }
+    ensures { λ r. ⌜ Settles h (now (work .entry)) rows (now (cur .entry)) r (now (cur .exit)) ⌝ }
+{
+    let mut left = rows;
+    loop {
+        let found = next_down(cur, left);
+        let Highest::At(r) = found else {
+            return Highest::Nothing;
+        };
+        if occupied(work, h, r) {
+            add_slot(cur, work, h, r);
+            left = r;
+        } else {
+            return Highest::At(r);
+        }
+    }
+}
+
+// Puts what is left of the pair in hand into the slot of its highest row, unless nothing is left.
+pub fn insert(work: &mut [u8], cur: &mut [u8], h: usize, rows: usize) -> Highest
+    requires { ⌜ rows ≤ 8 * h ⌝ }
+    requires { ⌜ roomOf h ≤ length (now work) ⌝ }
+    requires { ⌜ length (now cur) ≡ 2 * h ⌝ }
+    ensures { λ r. ⌜ Inserts h (now (work .entry)) rows (now (cur .entry)) r (now (cur .exit)) (now (work .exit)) ⌝ }
+{
+    let found = settle(cur, work, h, rows);
+    if let Highest::At(r) = found {
+        store_slot(work, cur, h, r);
+    }
+    found
+}
+
+// Reduces the pair in hand by the slots, all rows below `rows`.
+pub fn reduce(cur: &mut [u8], work: &[u8], h: usize, rows: usize)
+    requires { ⌜ rows ≤ 8 * h ⌝ }
+    requires { ⌜ roomOf h ≤ length (now work) ⌝ }
+    requires { ⌜ length (now cur) ≡ 2 * h ⌝ }
+    ensures { λ _. ⌜ now (cur .exit) ≡ redBytes h (now (work .entry)) rows (now (cur .entry)) ⌝ }
+{
+    let mut left = rows;
+    loop {
+        let found = settle(cur, work, h, left);
+        let Highest::At(r) = found else {
+            return;
+        };
+        left = r;
+    }
+}
