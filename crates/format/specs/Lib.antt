@@ -11,6 +11,7 @@ pub mod Listed
 pub mod Lookup
 pub mod Moves
 pub mod Facets
+pub mod Items
 pub mod Matrix
 -- no second outcome meets a promise, and every file has one
 pub mod Unique

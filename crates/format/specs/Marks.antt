@@ -8,7 +8,7 @@ use native.Mathlib.Omega.{arith}
 use native.Mathlib.Decide.{ℕ-discrete}
 use lib.ListN.{length, getD}
 use lib.Dec.{eqb, leb, ltb}
-use borrow.Author.Tests.{eqb-true, eq-eqb, ne-eqb}
+use borrow.Author.Tests.{eq-eqb, ne-eqb, ltb-true}
 use Rattle.format.specs.Numbers.{Limits, chainItem}
 use Rattle.format.specs.Simplex.{Simplex, Complex, same, rank, ranked, listed, allBelow, simplices, vertexList}
 use Rattle.format.specs.Reading.{Reading, accepted, refused, refuseIf, _andThen_, risingBelow, named, readSteps}
@@ -68,9 +68,56 @@ vertex-below (suc v) s h = go (same s (v ∷ [])) refl (vertex-below v s)
 pub vertices-once : (v : ℕ) → Once (vertexList v)
 unfolding vertexList copies
 vertices-once zero s = omega arith
-vertices-once (suc v) s = go (same s (v ∷ [])) refl (copies s (vertexList v)) refl
+vertices-once (suc v) s =
+    subst (λ n. n ≤ 1) (sym (copies-append s (vertexList v) ((v ∷ []) ∷ []))) (go (same s (v ∷ [])) refl (copies s (vertexList v)) refl (vertices-once v s))
   where
-    go : (x : Bool) → same s (v ∷ []) ≡ x → (n : ℕ) → copies s (vertexList v) ≡ n → copies s (vertexList v ++ ((v ∷ []) ∷ [])) ≤ 1
-    go x e zero z = ?a
-    go true e (suc n) z = ?b
-    go false e (suc n) z = ?c
+    go : (x : Bool) → same s (v ∷ []) ≡ x → (n : ℕ) → copies s (vertexList v) ≡ n → n ≤ 1 → n + (cond x 1 0 + 0) ≤ 1
+    go x e zero z h = few x
+      where
+        few : (x : Bool) → 0 + (cond x 1 0 + 0) ≤ 1
+        few true = omega arith
+        few false = omega arith
+    go true e (suc n) z h =
+        let it = vertex-below v s (omega (arith, z)) in
+        let same-vertex : it .0 ∷ [] ≡ v ∷ [] = sym (it .2) ∙ same-equal s (v ∷ []) e in
+        let clash : it .0 ≡ v = cc in
+        absurd (omega (arith, it .1))
+    go false e (suc n) z h = omega arith
+
+-- so in every list of a sound complex
+pub simplices-once : (L : Limits) (X : Complex) → SoundComplex L X → (k : ℕ) → Once (simplices X k)
+unfolding simplices copies
+simplices-once L X sound zero = vertices-once (X .v)
+simplices-once L X sound (suc zero) = sound .edges .once
+simplices-once L X sound (suc (suc zero)) = sound .triangles .once
+simplices-once L X sound (suc (suc (suc zero))) = sound .tetrahedra .once
+simplices-once L X sound (suc (suc (suc (suc k)))) = λ s. omega arith
+
+-- MARKS. Whether a place is among some places.
+unfoldable pub among : ℕ → List ℕ → Bool
+among i [] = false
+among i (p ∷ ps) = eqb i p || among i ps
+
+-- two places of a list hold the same simplex only if they are one place
+same-place : (l : List Simplex) → Once l → (i p : ℕ) → i < length l → p < length l → same (getD l i []) (getD l p []) ≡ eqb i p
+same-place l once i p hi hp = go (ℕ-discrete i p)
+  where
+    go : Dec (i ≡ p) → same (getD l i []) (getD l p []) ≡ eqb i p
+    go (yes e) = ap (λ x. same (getD l i []) (getD l x [])) (sym e) ∙ same-refl (getD l i []) ∙ sym (eq-eqb i p e)
+    go (no n) =
+        differ-same (getD l i []) (getD l p []) (λ e. n (one-place (getD l i []) l (once (getD l i [])) i p hi hp refl (sym e))) ∙
+        sym (ne-eqb i p n)
+
+-- a chain record marks the places that it names
+pub named-marks : (l : List Simplex) → Once l → (ps : List ℕ) → allBelow (length l) ps ≡ true → (i : ℕ) → i < length l → named l ps (getD l i []) ≡ among i ps
+unfolding among listed allBelow
+named-marks l once [] below i hi = refl
+named-marks l once (p ∷ ps) below i hi =
+    let both = and-true (ltb p (length l)) (allBelow (length l) ps) below in
+    ap₂ _||_ (same-place l once i p hi (ltb-true p (length l) (both .0))) (named-marks l once ps (both .1) i hi)
+
+-- a walk marks the ranks of its steps
+pub step-marks : (l : List Simplex) → Once l → (s : Simplex) (r : ℕ) → rank s l ≡ ranked r → (i : ℕ) → i < length l → same (getD l i []) s ≡ eqb i r
+step-marks l once s r e i hi =
+    let at = rank-stands s l r e in
+    ap (same (getD l i [])) (sym (at .here)) ∙ same-place l once i r hi (at .below)

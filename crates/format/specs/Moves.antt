@@ -6,8 +6,8 @@ use native.Mathlib.Omega.{arith}
 use mathlib.Core.Path.{_≡_, refl, sym, ap, _∙_}
 use mathlib.Core.Bool.{Bool, _||_, or-assoc, or-comm}
 use mathlib.Core.List.{List, [], _∷_, _++_, map, append-assoc, append-nil, map-append}
-use lib.ListN.{length, getD, set, take, drop, length-append, length-take, length-drop, take-append-drop}
-use lib.Seq.{drop-cons, take-suc, take-append-le, drop-append-le, take-at, length-take-le, append-snoc}
+use lib.ListN.{length, getD, set, take, drop, length-append, length-take, length-drop, take-append-drop, drop-of-length-le}
+use lib.Seq.{drop-cons, take-suc, take-append-le, drop-append-le, length-take-le, append-snoc}
 use Rattle.format.specs.Simplex.{Simplex, listed}
 use Rattle.format.specs.Reading.{without, moved}
 use Rattle.format.specs.Lookup.{listed-append}
@@ -25,6 +25,29 @@ module _ {A : Type 0} where
   moved-home zero (x ∷ l) = refl
   moved-home (suc i) (x ∷ l) = ap (_∷_ x) (moved-home i l)
 
+  -- LEAVING OUT one item: those before it stay where they are, those after it are one place nearer.
+  pub without-out : (k : ℕ) (l : List A) → length l ≤ k → without k l ≡ l
+  without-out zero [] h = refl
+  without-out (suc k) [] h = refl
+  without-out zero (x ∷ l) h = absurd (not-suc-le-zero h)
+  without-out (suc k) (x ∷ l) h = ap (_∷_ x) (without-out k l (le-of-suc-le-suc h))
+
+  pub without-before : (k : ℕ) (l : List A) (j : ℕ) (d : A) → j < k → getD (without k l) j d ≡ getD l j d
+  without-before zero l j d h = absurd (not-suc-le-zero h)
+  without-before (suc k) [] j d h = refl
+  without-before (suc k) (x ∷ l) zero d h = refl
+  without-before (suc k) (x ∷ l) (suc j) d h = without-before k l j d (le-of-suc-le-suc h)
+
+  pub without-after : (k : ℕ) (l : List A) (j : ℕ) (d : A) → k ≤ j → getD (without k l) j d ≡ getD l (suc j) d
+  without-after zero [] j d h = refl
+  without-after zero (x ∷ l) j d h = refl
+  without-after (suc k) [] j d h = refl
+  without-after (suc k) (x ∷ l) zero d h = absurd (not-suc-le-zero h)
+  without-after (suc k) (x ∷ l) (suc j) d h = without-after k l j d (le-of-suc-le-suc h)
+
+  pub length-without : (i : ℕ) (l : List A) → i < length l → suc (length (without i l)) ≡ length l
+  length-without i l h = simp (length-append, length-take, length-drop) (omega arith)
+
   -- A move puts one item among the others, which keep their order.
   abbrev put : ℕ → A → List A → List A
   put k x w = take k w ++ x ∷ drop k w
@@ -32,9 +55,6 @@ module _ {A : Type 0} where
   moved-put : (d : A) (seen k : ℕ) (l : List A) → seen < length l → moved seen k l ≡ put k (getD l seen d) (without seen l)
   unfolding moved
   moved-put d seen k l h = rw (drop-cons l seen d, append-snoc)
-
-  length-without : (i : ℕ) (l : List A) → i < length l → suc (length (without i l)) ≡ length l
-  length-without i l h = simp (length-append, length-take, length-drop) (omega arith)
 
   -- neighbours that change places, behind any front
   exchange-up : (d x y : A) (p q : List A) → exchanged d (length p) (suc (length p)) (p ++ x ∷ y ∷ q) ≡ p ++ y ∷ x ∷ q
@@ -89,12 +109,25 @@ module _ {A : Type 0} where
       rw (others, item, take-append-le k (without i p) q enough, drop-append-le k (without i p) q enough)
       (sym (append-assoc (take k (without i p) ++ take 1 (drop i p)) (drop k (without i p)) q))
 
-  pub take-moved : (n i k : ℕ) (l : List A) → n ≤ length l → i < n → k < n → take n (moved i k l) ≡ moved i k (take n l)
-  take-moved n i k l fits h g =
-      let front : length (take n l) ≡ n = length-take-le n l fits in
+  -- a front that is replaced by one as long
+  take-front : (n : ℕ) (p l : List A) → length p ≡ length (take n l) → take n (p ++ drop n l) ≡ p
+  take-front zero [] l e = refl
+  take-front zero (y ∷ p) l e = absurd (omega arith)
+  take-front (suc n) [] [] e = refl
+  take-front (suc n) [] (x ∷ l) e = absurd (omega arith)
+  take-front (suc n) (y ∷ p) [] e = absurd (omega arith)
+  take-front (suc n) (y ∷ p) (x ∷ l) e = ap (_∷_ y) (take-front n p l (omega arith))
+
+  pub take-moved : (n i k : ℕ) (l : List A) → i < length (take n l) → k < length (take n l) → take n (moved i k l) ≡ moved i k (take n l)
+  take-moved n i k l h g =
       ap (λ (m : List A). take n (moved i k m)) (sym (take-append-drop n l)) ∙
-      ap (take n) (moved-append i k (take n l) (drop n l) (omega arith) (omega arith)) ∙
-      take-at (moved i k (take n l)) (drop n l) n (length-moved i k (take n l) ∙ front)
+      ap (take n) (moved-append i k (take n l) (drop n l) h g) ∙
+      take-front n (moved i k (take n l)) l (length-moved i k (take n l))
+
+  -- what is not there is not moved
+  pub moved-out : (i k : ℕ) (l : List A) → length l ≤ i → moved i k l ≡ l
+  unfolding moved
+  moved-out i k l h = rw (without-out i l h, drop-of-length-le l {i = i} h, append-nil (take k l)) (take-append-drop k l)
 
 -- moving goes along with whatever is read off each item
 map-take : {A B : Type 0} (f : A → B) (n : ℕ) (l : List A) → map f (take n l) ≡ take n (map f l)

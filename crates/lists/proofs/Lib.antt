@@ -1,0 +1,5 @@
+-- Laws that several proofs of this crate cite.
+pub mod Four
+pub mod Sameness
+pub mod Search
+pub mod Moving
