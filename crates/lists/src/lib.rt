@@ -41,18 +41,31 @@ pub enum Verdict {
 // The refusals, by their numbers in the table.
 impl Verdict {
     pub const TOO_LONG: u16 = 1;
+
     pub const CUT: u16 = 2;
+
     pub const KIND: u16 = 3;
+
     pub const SHAPE: u16 = 4;
+
     pub const HEAD: u16 = 5;
+
     pub const VERTEX: u16 = 6;
+
     pub const TWICE: u16 = 7;
+
     pub const FACE: u16 = 8;
+
     pub const CHAIN_ITEM: u16 = 9;
+
     pub const STALE: u16 = 10;
+
     pub const TARGET: u16 = 11;
+
     pub const RIM_OPEN: u16 = 12;
+
     pub const NO_FILLING: u16 = 13;
+
     pub const ROOM: u16 = 14;
 }
 

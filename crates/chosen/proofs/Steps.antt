@@ -1,0 +1,111 @@
+-- Reading a walk: what is still to be checked and marked, together with what was, is always the whole.
+use Prim.Native.Nat.{ℕ, zero, suc, _+_, _≤_, _<_}
+use mathlib.Core.Path.{_≡_, refl, sym, _∙_, ap, ap₂, subst}
+use mathlib.Core.Bool.{Bool, true, false, not, _||_, cond, or-false, or-true}
+use mathlib.Core.List.{List, [], _∷_}
+use native.Mathlib.Omega.{arith}
+use native.Mathlib.Nat.{add-zero, add-assoc}
+use native.Mathlib.Numerals.{add-one}
+use native.Mathlib.Decide.{ℕ-discrete, decLt}
+use lib.ListN.{length, getD, set, drop, replicate, length-set, length-replicate, drop-of-length-le}
+use lib.Seq.{drop-cons, getD-set-same, getD-set-other}
+use lib.Dec.{eqb, ltb}
+use borrow.Author.Tests.{lt-ltb, le-ltb, eq-eqb, ne-eqb}
+use Rattle.format.specs.Numbers.{chainItem}
+use Rattle.format.specs.Simplex.{Simplex, same, rank, ranked, unlisted, listed}
+use Rattle.format.specs.Reading.{Reading, accepted, refused, _andThen_, edgeBetween, stepsFrom, steps, readSteps, walkChain}
+use Rattle.format.specs.Listed.{isRanked, listed-ranked, rank-stands}
+use Rattle.format.specs.Marks.{checkSteps, steps-then, step-marks, Once}
+use Rattle.lists.specs.declared.Marks.{Marks}
+use Rattle.lists.specs.declared.SimplexList.{SimplexList}
+use Rattle.lists.specs.declared.Verdict.the-variants.{Fine, Refused}
+use Rattle.lists.specs.Meaning.{simplicesOf, rankOf}
+use Rattle.lists.specs.Items.{length-simplices}
+use Rattle.lists.specs.declared.Found.{Found}
+use Rattle.chosen.specs.Meaning.{WalkRead, stepAt}
+use Rattle.chosen.proofs.Positions.{then-accepted, all-off}
+
+-- the steps from place i on
+unfoldable pub stepsLeft : List ℕ → ℕ → List Simplex
+stepsLeft p i = cond (ltb i (length p)) (stepsFrom (getD p 0 0) (getD p i 0) (drop (suc i) p)) []
+
+all-steps : (p : List ℕ) → stepsLeft p 0 ≡ steps p
+unfolding stepsLeft
+all-steps [] = refl
+all-steps (w ∷ p) = rw (lt-ltb 0 (length (w ∷ p)) (omega arith))
+
+no-steps : (p : List ℕ) (i : ℕ) → length p ≤ i → stepsLeft p i ≡ []
+unfolding stepsLeft
+no-steps p i h = rw (le-ltb i (length p) h)
+
+next-step : (p : List ℕ) (i : ℕ) → i < length p → stepsLeft p i ≡ stepAt p i ∷ stepsLeft p (i + 1)
+unfolding stepsLeft stepsFrom
+next-step p i h = go (decLt (i + 1) (length p))
+  where
+    go : Dec (i + 1 < length p) → cond (ltb i (length p)) (stepsFrom (getD p 0 0) (getD p i 0) (drop (suc i) p)) [] ≡ stepAt p i ∷ cond (ltb (i + 1) (length p)) (stepsFrom (getD p 0 0) (getD p (i + 1) 0) (drop (suc (i + 1)) p)) []
+    go (yes more) = rw (lt-ltb i (length p) h, lt-ltb (i + 1) (length p) more, add-one i, drop-cons p (suc i) 0 (omega arith))
+    go (no last) = rw (lt-ltb i (length p) h, le-ltb (i + 1) (length p) (omega arith), drop-of-length-le p {i = suc i} (omega arith))
+
+-- THE INVARIANT, at place i of the walk.
+pub record Walking (p : List ℕ) (base : ℕ) (edges : List Simplex) (on : List Bool) (i : ℕ) : Type 0 where
+  pub long : length on ≡ 512
+  pub near : i ≤ length p
+  pub rest : readSteps edges base (steps p) ≡ checkSteps edges (base + i) (stepsLeft p i) (accepted (steps p))
+  pub marked : Once edges → (j : ℕ) → j < length edges → (getD on j false || listed (getD edges j []) (stepsLeft p i)) ≡ listed (getD edges j []) (steps p)
+
+pub walking-starts : (p : List ℕ) (base : ℕ) (edges : List Simplex) (on : List Bool) → on ≡ replicate 512 false → Walking p base edges on 0
+walking-starts p base edges on off =
+    record {
+      long = ap length off ∙ length-replicate 512 false;
+      near = omega arith;
+      rest = sym (then-accepted (readSteps edges base (steps p))) ∙ steps-then edges base (steps p) accepted ∙ ap₂ (λ n l. checkSteps edges n l (accepted (steps p))) (sym (add-zero base)) (sym (all-steps p));
+      marked = λ once j h. ap (λ x. getD x j false || listed (getD edges j []) (stepsLeft p 0)) off ∙ ap (λ x. x || listed (getD edges j []) (stepsLeft p 0)) (all-off 512 j) ∙ ap (listed (getD edges j [])) (all-steps p);
+    }
+
+module _ {p : List ℕ} {base : ℕ} {edges : List Simplex} {on : List Bool} {i : ℕ} (now : Walking p base edges on i) (more : i < length p) where
+  -- a step that is no listed edge is refused where it begins
+  pub walking-astray : rank (stepAt p i) edges ≡ unlisted → readSteps edges base (steps p) ≡ refused chainItem (base + i)
+  unfolding checkSteps isRanked
+  walking-astray e = now .rest ∙ rw (next-step p i more, listed-ranked 0 (stepAt p i) edges, e)
+
+  pub walking-goes-on : (r : ℕ) → rank (stepAt p i) edges ≡ ranked r → r < 512 → Walking p base edges (set on r true) (i + 1)
+  unfolding checkSteps listed isRanked
+  walking-goes-on r e few =
+      record {
+        long = length-set on r true ∙ now .long;
+        near = omega arith;
+        rest = now .rest ∙ rw (next-step p i more, listed-ranked 0 (stepAt p i) edges, e, add-assoc base i 1);
+        marked = λ once j h. one once j h (ℕ-discrete j r) ∙ ap (λ x. getD on j false || listed (getD edges j []) x) (sym (next-step p i more)) ∙ now .marked once j h;
+      }
+    where
+      one : Once edges → (j : ℕ) → j < length edges → Dec (j ≡ r) → (getD (set on r true) j false || listed (getD edges j []) (stepsLeft p (i + 1))) ≡ (getD on j false || (same (getD edges j []) (stepAt p i) || listed (getD edges j []) (stepsLeft p (i + 1))))
+      one once j h (yes z) = rw (step-marks edges once (stepAt p i) r e j h, z, getD-set-same on r true false (omega (arith, now .long)), eq-eqb r r refl, or-true)
+      one once j h (no n) = rw (step-marks edges once (stepAt p i) r e j h, getD-set-other on r j true false n, ne-eqb j r n)
+
+-- What is handed back with a refusal, and at the end.
+pub walk-refused : (p : List ℕ) (base : ℕ) (edges : SimplexList) (n q : ℕ) (marks : Marks) → readSteps (simplicesOf edges) base (steps p) ≡ refused n q → WalkRead p base edges (record { verdict = Refused n q; marks = marks })
+walk-refused p base edges n q marks e =
+    record { verdict = e; marks = λ f. let z : _≡_ {A = ℕ} 0 1 = cc in absurd (omega arith) }
+
+pub walk-read : {p : List ℕ} {base : ℕ} (edges : SimplexList) (marks : Marks) {i : ℕ} → Walking p base (simplicesOf edges) (marks .on) i → length p ≤ i → WalkRead p base edges (record { verdict = Fine; marks = marks })
+unfolding checkSteps walkChain listed
+walk-read {p = p} edges marks {i = i} now done =
+    record {
+      verdict = now .rest ∙ rw (no-steps p i done);
+      marks = λ f once j h. sym (or-false (getD (marks .on) j false)) ∙ ap (λ x. getD (marks .on) j false || listed (getD (simplicesOf edges) j []) x) (sym (no-steps p i done)) ∙ now .marked once j h;
+    }
+
+-- a rank in a list is below the list's limit
+pub rank-few : (edges : SimplexList) → length (edges .items) ≡ 512 → (s : Simplex) (r : ℕ) → rank s (simplicesOf edges) ≡ ranked r → r < 512
+rank-few edges long s r e = omega (arith, rank-stands s (simplicesOf edges) r e .below, length-simplices edges)
+
+-- what a look-up says, about a simplex that the definitions know by another name
+pub looked-up : (edges : SimplexList) (found f : Found) (s t : Simplex) → s ≡ t → rankOf found ≡ rank s (simplicesOf edges) → found ≡ f → rank t (simplicesOf edges) ≡ rankOf f
+looked-up edges found f s t e q g = ap (λ x. rank x (simplicesOf edges)) (sym e) ∙ sym q ∙ ap rankOf g
+
+-- a step to the next vertex, and the last one, home
+pub step-on : (p : List ℕ) (i : ℕ) → i + 1 < length p → stepAt p i ≡ edgeBetween (getD p i 0) (getD p (i + 1) 0)
+step-on p i h = rw (lt-ltb (i + 1) (length p) h)
+
+pub step-home : (p : List ℕ) (i : ℕ) → length p ≤ i + 1 → stepAt p i ≡ edgeBetween (getD p i 0) (getD p 0 0)
+step-home p i h = rw (le-ltb (i + 1) (length p) h)

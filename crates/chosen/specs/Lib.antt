@@ -1,0 +1,2 @@
+-- What the readers of a chain record and of a walk hand back.
+pub mod Meaning

@@ -1,0 +1,113 @@
+// The chain that a job asks about: a chain record's positions, or a walk's steps, become marks by rank.
+use lists::Found;
+use lists::Marks;
+use lists::Simplex;
+use lists::SimplexList;
+use lists::Verdict;
+ghost use mathlib.Core.Path.{_≡_};
+ghost use Prim.Native.Nat.{_≤_, _<_};
+ghost use lib.ListN.{length};
+ghost use Rattle.format.specs.Reading.{edgeBetween};
+ghost use Rattle.lists.specs.Meaning.{verticesOf};
+ghost use Rattle.chosen.specs.Meaning.{PositionsRead, WalkRead, stepAt};
+
+// A verdict, and the marks beside it, which count only where nothing was refused.
+pub struct ChainRead {
+    pub verdict: Verdict,
+    pub marks: Marks,
+}
+
+impl ChainRead {
+    // the kinds of a chain record and of a walk, and their longest payload
+    pub const CHAIN: u16 = 5;
+
+    pub const WALK: u16 = 6;
+
+    pub const BYTES: usize = 1024;
+}
+
+// Marks the positions of a chain record, two bytes each, which must rise strictly below `count`.
+pub fn read_positions(p: &[u8], base: usize, count: usize) -> ChainRead
+    requires { ⌜ (count ≤ 512) × (base ≤ 65536) ⌝ }
+    ensures { λ r. ⌜ PositionsRead (now (p .entry)) base count r ⌝ }
+{
+    let mut marks = Marks::none();
+    let mut least = 0;
+    let mut at = 0;
+    while at + 1 < p.len() {
+        let position = records::u16_at(p, at);
+        if position < least {
+            return ChainRead {
+                verdict: Verdict::Refused(Verdict::CHAIN_ITEM, base + at),
+                marks,
+            };
+        }
+        if count <= position {
+            return ChainRead {
+                verdict: Verdict::Refused(Verdict::CHAIN_ITEM, base + at),
+                marks,
+            };
+        }
+        marks.on[position] = true;
+        least = position + 1;
+        at += 2;
+    }
+    ChainRead {
+        verdict: Verdict::Fine,
+        marks,
+    }
+}
+
+// The edge between two vertices, the lower one first.
+pub fn edge_between(a: u8, b: u8) -> Simplex
+    ensures { λ r. ⌜ verticesOf r ≡ edgeBetween a b ⌝ }
+{
+    if a < b {
+        Simplex {
+            vertices: [a as u16, b as u16, 0, 0],
+            dim: 1,
+        }
+    } else {
+        Simplex {
+            vertices: [b as u16, a as u16, 0, 0],
+            dim: 1,
+        }
+    }
+}
+
+// The edge that the walk's step from place i on takes; the last step goes back to the first vertex.
+fn step_at(p: &[u8], i: usize) -> Simplex
+    requires { ⌜ i < length (now p) ⌝ }
+    ensures { λ r. ⌜ verticesOf r ≡ stepAt (now (p .entry)) i ⌝ }
+{
+    let next = i + 1;
+    if next < p.len() {
+        edge_between(p[i], p[next])
+    } else {
+        edge_between(p[i], p[0])
+    }
+}
+
+// Marks the edges that the steps of a closed walk use; each must be listed.
+pub fn read_walk(p: &[u8], base: usize, edges: SimplexList) -> ChainRead
+    requires { ⌜ base ≤ 65536 ⌝ }
+    ensures { λ r. ⌜ WalkRead (now (p .entry)) base edges r ⌝ }
+{
+    let mut marks = Marks::none();
+    let mut i = 0;
+    while i < p.len() {
+        let found = lists::find(edges, step_at(p, i));
+        let Found::At(rank) = found else {
+            return ChainRead {
+                verdict: Verdict::Refused(Verdict::CHAIN_ITEM, base + i),
+                marks,
+            };
+        };
+        marks.on[rank] = true;
+        i += 1;
+    }
+    ChainRead {
+        verdict: Verdict::Fine,
+        marks,
+    }
+}
