@@ -3,11 +3,11 @@
 use Prim.Native.Nat.{ℕ, zero, suc, _-_, _≤_, _<_}
 use native.Mathlib.Nat.{not-suc-le-zero}
 use native.Mathlib.Omega.{arith}
-use mathlib.Core.Path.{_≡_, refl, sym, ap, ap₂, _∙_}
+use mathlib.Core.Path.{_≡_, refl, sym, ap, _∙_}
 use mathlib.Core.List.{List, [], _∷_, _++_, map, map-append, map-map}
 use mathlib.Core.Bool.{true, false, _&&_}
 use lib.ListN.{length}
-use Rattle.format.specs.Simplex.{Simplex, facets, Rank, ranked, unlisted, rank, allListed}
+use Rattle.format.specs.Simplex.{Simplex, facets, ranked, unlisted, rank, allListed}
 use Rattle.format.specs.Listed.{isRanked, listed-ranked}
 use Rattle.format.specs.Reading.{without}
 

@@ -1,8 +1,8 @@
 -- The items of a payload, one by one: while a whole item is left, it is the next, and then come those of the rest.
-use Prim.Native.Nat.{ℕ, zero, suc, _/_, _-_, _≤_, _<_}
+use Prim.Native.Nat.{ℕ, _≤_, _<_}
 use native.Mathlib.Nat.{div-eq-of-lt, div-eq-sub-div}
 use native.Mathlib.Numerals.{add-one}
-use mathlib.Core.Path.{_≡_, refl, sym}
+use mathlib.Core.Path.{_≡_}
 use mathlib.Core.List.{List, [], _∷_}
 use lib.ListN.{length, take, drop, length-drop}
 use Rattle.format.specs.Reading.{items, itemsOf}

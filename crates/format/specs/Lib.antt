@@ -12,6 +12,7 @@ pub mod Lookup
 pub mod Moves
 pub mod Facets
 pub mod Items
+pub mod Opened
 pub mod Matrix
 -- no second outcome meets a promise, and every file has one
 pub mod Unique

@@ -1,14 +1,14 @@
 -- More laws of looking a simplex up, for the readers: what differs anywhere is another simplex, the first place that
 -- holds a simplex is its rank, and listing goes along with appending. Each is an induction along the list.
-use Prim.Native.Nat.{ℕ, zero, suc, _+_, _≤_, _<_}
+use Prim.Native.Nat.{ℕ, zero, suc, _+_, _<_}
 use native.Mathlib.Nat.{add-zero, le-of-suc-le-suc, not-suc-le-zero, zero-lt-suc}
 use native.Mathlib.Omega.{arith}
-use mathlib.Core.Path.{_≡_, refl, sym, ap, _∙_}
-use mathlib.Core.Bool.{Bool, true, false, not, _&&_, _||_, cond, or-assoc, and-assoc, or-true}
+use mathlib.Core.Path.{_≡_, refl, sym, ap}
+use mathlib.Core.Bool.{Bool, true, false, _&&_, _||_, cond, or-assoc, and-assoc, or-true}
 use mathlib.Core.List.{List, [], _∷_, _++_}
-use lib.ListN.{length, getD}
+use lib.ListN.{getD}
 use Rattle.format.specs.Simplex.{Simplex, same, Rank, ranked, unlisted, rankFrom, rank, listed, allListed}
-use Rattle.format.specs.Listed.{true-not-false, same-refl, same-equal, StandsAt, isRanked, listed-ranked}
+use Rattle.format.specs.Listed.{same-refl, same-equal, StandsAt}
 
 -- what differs is not the same
 pub differ-same : (s t : Simplex) → (s ≡ t → ⊥) → same s t ≡ false

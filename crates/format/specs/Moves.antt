@@ -1,6 +1,6 @@
 -- Laws of moving one item of a list to another place. Why they hold: what is moved leaves the others in their order,
 -- so a move by one place more is one exchange of two neighbours, and nothing is lost or added.
-use Prim.Native.Nat.{ℕ, zero, suc, _+_, _-_, _≤_, _<_}
+use Prim.Native.Nat.{ℕ, zero, suc, _≤_, _<_}
 use native.Mathlib.Nat.{le-of-suc-le-suc, not-suc-le-zero}
 use native.Mathlib.Omega.{arith}
 use mathlib.Core.Path.{_≡_, refl, sym, ap, _∙_}

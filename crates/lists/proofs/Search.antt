@@ -3,11 +3,11 @@
 use Prim.Native.Nat.{ℕ, suc, _+_, _≤_, _<_, min}
 use native.Mathlib.Numerals.{add-one}
 use native.Mathlib.Omega.{arith}
-use mathlib.Core.Path.{_≡_, refl, sym, ap, _∙_}
-use mathlib.Core.Bool.{Bool, true, false}
-use mathlib.Core.List.{List, [], _∷_}
+use mathlib.Core.Path.{_≡_, refl, _∙_}
+use mathlib.Core.Bool.{true, false}
+use mathlib.Core.List.{_∷_}
 use lib.ListN.{length, drop, getD, drop-of-length-le}
-use Rattle.format.specs.Simplex.{Rank, ranked, unlisted, rankFrom, rank, same}
+use Rattle.format.specs.Simplex.{ranked, unlisted, rankFrom, rank, same}
 use Rattle.format.specs.Simplex as format
 use Rattle.lists.specs.Meaning.{none, verticesOf, simplicesOf}
 use Rattle.lists.specs.Items.{counted, drop-simplices}

@@ -1,8 +1,8 @@
 -- Laws of the simplices of a list, item by item. They hold since `simplicesOf` reads each item by itself.
-use Prim.Native.Nat.{ℕ, zero, suc, _+_, _≤_, _<_, min}
+use Prim.Native.Nat.{ℕ, suc, _+_, _<_, min}
 use native.Mathlib.Omega.{arith}
 use native.Mathlib.Numerals.{add-one}
-use mathlib.Core.Path.{_≡_, refl, sym, ap, _∙_}
+use mathlib.Core.Path.{_≡_, sym, ap, _∙_}
 use mathlib.Core.List.{List, [], _∷_, _++_, map, map-append}
 use lib.ListN.{length, take, drop, set, getD, length-take, length-map, List·getD-map}
 use lib.Seq.{drop-cons, getD-take, take-suc-set}

@@ -1,5 +1,5 @@
 -- The meaning of the structs and enums, for every contract of this crate and of the readers above it.
-use Prim.Native.Nat.{ℕ, suc}
+use Prim.Native.Nat.{suc}
 use mathlib.Core.List.{List, [], map}
 use lib.ListN.{take}
 use Rattle.format.specs.Simplex.{Rank, ranked, unlisted}

@@ -1,5 +1,4 @@
 -- A verdict, with what was read, as the reading that crate `format` defines.
-use Prim.Native.Nat.{ℕ}
 use Rattle.format.specs.Reading.{Reading, accepted, refused}
 use Rattle.lists.specs.declared.Verdict.{Verdict}
 use Rattle.lists.specs.declared.Verdict.the-variants.{Fine, Refused}

@@ -3,10 +3,8 @@
 -- Assumes nothing.
 use borrow.Author.Needs.{needs}
 use native.Mathlib.Omega.{arith}
-use Prim.Native.Nat.{ℕ, suc}
-use mathlib.Core.Path.{_≡_, sym, _∙_}
-use lib.ListN.{length, getD, length-take}
-use Rattle.lists.specs.Meaning.{verticesOf}
+use Prim.Native.Nat.{ℕ}
+use mathlib.Core.Path.{sym, _∙_}
 use Rattle.lists.specs.declared.Simplex.{Simplex}
 use Rattle.lists.proofs.Sameness.{Alike, differ-at, differ-size, alike-first, alike-more, alike-all, alike-differ, alike-last}
 use Rattle.lists.proofs.same.Statement.{statement}

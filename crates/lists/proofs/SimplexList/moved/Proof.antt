@@ -1,7 +1,7 @@
 -- `lists::SimplexList::moved` meets its contract: after each turn the items are those of the move to place `i`.
 -- Assumes nothing.
 use borrow.Author.Needs.{needs}
-use mathlib.Core.Path.{_≡_, refl, sym, _∙_}
+use mathlib.Core.Path.{_≡_, refl}
 use lib.ListN.{length}
 use Rattle.lists.specs.Meaning.{none, simplicesOf}
 use Rattle.lists.specs.Items.{length-mapped, counted}

@@ -1,0 +1,4 @@
+-- Laws that the proofs of this crate cite.
+pub mod Soundness
+pub mod Judging
+pub mod Taking

@@ -1,0 +1,73 @@
+-- What each outcome of a stage's tests comes to in the definitions.
+use Prim.Native.Nat.{ℕ, _+_, _*_, _%_, _≤_, _<_}
+use mathlib.Core.Path.{_≡_, refl, sym, _∙_, ap}
+use mathlib.Core.Bool.{Bool, true, false, not, _&&_, and-false}
+use mathlib.Core.List.{List, []}
+use native.Mathlib.Omega.{arith}
+use lib.ListN.{length}
+use lib.Dec.{eqb, leb}
+use borrow.Author.Tests.{eq-eqb, ne-eqb, le-leb, lt-leb}
+use Rattle.format.specs.Numbers.{small, cut, wrongKind, shape, headerBytes}
+use Rattle.format.specs.Simplex.{Simplex}
+use Rattle.format.specs.Reading.{Reading, accepted, refused, _andThen_, Header, ended, broken, whole, headerAt, payloadAt, Record, Listing, recordAt, listFits, readItems, itemsOf, readList}
+use Rattle.format.specs.Opened.{openedFrom, opened, record-opened, opened-inside, payload-long}
+use Rattle.lists.specs.declared.Verdict.{Verdict}
+use Rattle.lists.specs.declared.Verdict.the-variants.{Fine, Refused}
+use Rattle.lists.specs.Verdicts.{readingOf}
+use Rattle.lists.specs.Meaning.{simplicesOf}
+use Rattle.stages.specs.Meaning.{listRead}
+use Rattle.stages.specs.declared.ListRead.{ListRead}
+
+-- what an answer is known to be, put into what the answer means
+pub told : {A B : Type 0} (means : A → B) (answer known : A) (x : B) → means answer ≡ x → answer ≡ known → x ≡ means known
+told means answer known x e k = sym e ∙ ap means k
+
+module _ (may : ℕ → Bool) (b : List ℕ) (at : ℕ) where
+  pub opened-ended : headerAt b at ≡ ended → opened may b at ≡ refused wrongKind at
+  unfolding openedFrom
+  opened-ended e = rw e
+
+  pub opened-broken : headerAt b at ≡ broken → opened may b at ≡ refused cut at
+  unfolding openedFrom
+  opened-broken e = rw e
+
+  pub opened-may : (kind size : ℕ) → headerAt b at ≡ whole kind size → may kind ≡ true → opened may b at ≡ accepted size
+  unfolding openedFrom
+  opened-may kind size e m = rw (e, m)
+
+  pub opened-may-not : (kind size : ℕ) → headerAt b at ≡ whole kind size → may kind ≡ false → opened may b at ≡ refused wrongKind at
+  unfolding openedFrom
+  opened-may-not kind size e m = rw (e, m)
+
+-- what is done with what was read is done only where nothing was refused
+pub reading-then : {A B : Type 0} (v : Verdict) (a : A) (f : A → B) → (readingOf v a andThen λ x. accepted (f x)) ≡ readingOf v (f a)
+reading-then Fine a f = refl
+reading-then (Refused n p) a f = refl
+
+-- THE LIST STAGE.
+module _ (b : List ℕ) (at kind v : ℕ) (faces : List Simplex) where
+  pub list-refused : (number : ℕ) → opened (eqb kind) b at ≡ refused number at → readList small b at kind v faces ≡ refused number at
+  unfolding readList
+  list-refused number e = rw (record-opened (λ _ p. listFits small kind p) b at kind, e)
+
+  module _ (size : ℕ) (whole : opened (eqb kind) b at ≡ accepted size) where
+    long : length (payloadAt b at size) ≡ size
+    long = payload-long b at size (opened-inside (eqb kind) b at size whole)
+
+    pub list-uneven : (size % kind ≡ 0 → ⊥) → readList small b at kind v faces ≡ refused shape at
+    unfolding readList
+    list-uneven n = rw (record-opened (λ _ p. listFits small kind p) b at kind, whole, long, ne-eqb (size % kind) 0 n)
+
+    pub list-long : kind * 512 < size → readList small b at kind v faces ≡ refused shape at
+    unfolding readList
+    list-long h = rw (record-opened (λ _ p. listFits small kind p) b at kind, whole, long, lt-leb size (kind * 512) h, and-false)
+
+    pub list-read : size % kind ≡ 0 → size ≤ kind * 512 → (verdict : Verdict) (list : List Simplex) → readItems kind v faces (at + headerBytes) [] (itemsOf kind (payloadAt b at size)) ≡ readingOf verdict list
+        → readList small b at kind v faces ≡ readingOf verdict (record { list = list; next = at + headerBytes + size })
+    unfolding readList
+    list-read e h verdict list r =
+        rw (record-opened (λ _ p. listFits small kind p) b at kind, whole, long, eq-eqb (size % kind) 0 e, le-leb size (kind * 512) h, r)
+        (reading-then verdict list (λ l. record { list = l; next = at + headerBytes + size }))
+
+pub refused-list : (r : ListRead) (n at : ℕ) → r .verdict ≡ Refused n at → listRead r ≡ refused n at
+refused-list r n at e = ap (λ v. readingOf v (record { list = simplicesOf (r .list); next = r .next })) e

@@ -1,0 +1,85 @@
+// The record stages of a job: a record is opened (2 cut, 3 kind), its shape is checked (4), and then its items.
+use lists::SimplexList;
+use lists::Verdict;
+use records::Header;
+ghost use mathlib.Core.Path.{_≡_};
+ghost use Prim.Native.Nat.{_≤_};
+ghost use lib.Dec.{eqb};
+ghost use Rattle.format.specs.Numbers.{small};
+ghost use Rattle.format.specs.Reading.{readList};
+ghost use Rattle.format.specs.Opened.{opened};
+ghost use Rattle.lists.specs.Meaning.{simplicesOf};
+ghost use Rattle.stages.specs.Meaning.{openedOf, listRead};
+
+// A record that stands at a place: the length of its payload, or the refusal's number.
+pub enum Opened {
+    Size(usize),
+    Refused(u16),
+}
+
+// Opens the record at a place, where only this kind may stand.
+pub fn open(job: &[u8], at: usize, kind: u16) -> Opened
+    ensures { λ r. ⌜ openedOf at r ≡ opened (eqb kind) (now (job .entry)) at ⌝ }
+{
+    let header = records::header_at(job, at);
+    match header {
+        Header::Ended => Opened::Refused(Verdict::KIND),
+        Header::Broken => Opened::Refused(Verdict::CUT),
+        Header::Whole(found, size) => {
+            if found == kind {
+                Opened::Size(size)
+            } else {
+                Opened::Refused(Verdict::KIND)
+            }
+        }
+    }
+}
+
+// A list as it was read, and the offset of the record behind its own.
+pub struct ListRead {
+    pub verdict: Verdict,
+    pub list: SimplexList,
+    pub next: usize,
+}
+
+impl ListRead {
+    fn refused(number: u16, at: usize) -> Self
+        ensures { λ r. ⌜ r .verdict ≡ Verdict.Refused number at ⌝ }
+    {
+        ListRead {
+            verdict: Verdict::Refused(number, at),
+            list: SimplexList::empty(),
+            next: at,
+        }
+    }
+}
+
+// Reads the list record of one kind at a place, over the list of its facets.
+pub fn read_list(job: &[u8], at: usize, kind: u16, v: u16, faces: SimplexList) -> ListRead
+    requires { ⌜ (2 ≤ kind) × (kind ≤ 4) ⌝ }
+    ensures { λ r. ⌜ listRead r ≡ readList small (now (job .entry)) at kind v (simplicesOf faces) ⌝ }
+{
+    let opened = open(job, at, kind);
+    match opened {
+        Opened::Refused(number) => ListRead::refused(number, at),
+        Opened::Size(size) => {
+            let width = kind as usize;
+            if size % width != 0 {
+                return ListRead::refused(Verdict::SHAPE, at);
+            }
+            if width * SimplexList::LIMIT < size {
+                return ListRead::refused(Verdict::SHAPE, at);
+            }
+            let start = at + Header::BYTES;
+            let p = records::payload(job, at, size);
+            let read = reading_lists::read_items(p, start, v, width, faces);
+            let verdict = read.verdict;
+            let list = read.list;
+            ListRead {
+                verdict,
+                list,
+                next: start + size,
+            }
+        }
+    }
+}
