@@ -83,15 +83,16 @@ module _ {p : List ℕ} {base : ℕ} {edges : List Simplex} {on : List Bool} {i 
       one once j h (no n) = rw (step-marks edges once (stepAt p i) r e j h, getD-set-other on r j true false n, ne-eqb j r n)
 
 -- What is handed back with a refusal, and at the end.
-pub walk-refused : (p : List ℕ) (base : ℕ) (edges : SimplexList) (n q : ℕ) (marks : Marks) → readSteps (simplicesOf edges) base (steps p) ≡ refused n q → WalkRead p base edges (record { verdict = Refused n q; marks = marks })
-walk-refused p base edges n q marks e =
-    record { verdict = e; marks = λ f. let z : _≡_ {A = ℕ} 0 1 = cc in absurd (omega arith) }
+pub walk-refused : (p : List ℕ) (base : ℕ) (edges : SimplexList) → length (edges .items) ≡ 512 → (n q : ℕ) (marks : Marks) → readSteps (simplicesOf edges) base (steps p) ≡ refused n q → WalkRead p base edges (record { verdict = Refused n q; marks = marks })
+walk-refused p base edges full n q marks e =
+    record { verdict = e; few = omega (arith, length-simplices edges); marks = λ f. let z : _≡_ {A = ℕ} 0 1 = cc in absurd (omega arith) }
 
-pub walk-read : {p : List ℕ} {base : ℕ} (edges : SimplexList) (marks : Marks) {i : ℕ} → Walking p base (simplicesOf edges) (marks .on) i → length p ≤ i → WalkRead p base edges (record { verdict = Fine; marks = marks })
+pub walk-read : {p : List ℕ} {base : ℕ} (edges : SimplexList) → length (edges .items) ≡ 512 → (marks : Marks) {i : ℕ} → Walking p base (simplicesOf edges) (marks .on) i → length p ≤ i → WalkRead p base edges (record { verdict = Fine; marks = marks })
 unfolding checkSteps walkChain listed
-walk-read {p = p} edges marks {i = i} now done =
+walk-read {p = p} edges full marks {i = i} now done =
     record {
       verdict = now .rest ∙ rw (no-steps p i done);
+      few = omega (arith, length-simplices edges);
       marks = λ f once j h. sym (or-false (getD (marks .on) j false)) ∙ ap (λ x. getD (marks .on) j false || listed (getD (simplicesOf edges) j []) x) (sym (no-steps p i done)) ∙ now .marked once j h;
     }
 

@@ -1,5 +1,5 @@
 -- Marks by rank, as the places that a chain record names and as the edges that a walk uses.
-use Prim.Native.Nat.{ℕ, _+_, _<_}
+use Prim.Native.Nat.{ℕ, _+_, _≤_, _<_}
 use mathlib.Core.Path.{_≡_}
 use mathlib.Core.Bool.{Bool, true, false, cond}
 use mathlib.Core.List.{List, []}
@@ -28,4 +28,5 @@ stepAt p i = edgeBetween (getD p i 0) (cond (ltb (i + 1) (length p)) (getD p (i 
 -- a walk, read: where the verdict is fine the marks are the edges that some step uses
 pub record WalkRead (p : List ℕ) (base : ℕ) (edges : SimplexList) (r : ChainRead) : Type 0 where
   pub verdict : readSteps (simplicesOf edges) base (steps p) ≡ readingOf (r .verdict) (steps p)
+  pub few : length (simplicesOf edges) ≤ 512
   pub marks : r .verdict ≡ Fine → Once (simplicesOf edges) → (i : ℕ) → i < length (simplicesOf edges) → getD (r .marks .on) i false ≡ walkChain (steps p) (getD (simplicesOf edges) i [])

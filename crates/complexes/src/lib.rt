@@ -63,7 +63,7 @@ impl Complex {
 
     // How many simplices of a dimension there are.
     pub fn count(self, dim: usize) -> usize
-        ensures { λ r. ⌜ (r ≡ length (listOf self dim)) ⌝ }
+        ensures { λ r. ⌜ (r ≡ length (listOf self dim)) × (self .v ≤ 512 → r ≤ 512) ⌝ }
     {
         if dim == 0 {
             return self.v as usize;

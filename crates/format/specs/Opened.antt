@@ -9,6 +9,7 @@ use lib.Dec.{eqb, leb, ltb}
 use borrow.Author.Tests.{eqb-true, ltb-false}
 use Rattle.format.specs.Numbers.{cut, wrongKind, shape, headerBytes}
 use Rattle.format.specs.Reading.{Reading, accepted, refused, refuseIf, _andThen_, Header, ended, broken, whole, headerAt, payloadAt, u16At, u32At, Record, recordFrom, recordAt}
+use Rattle.format.specs.Sound.{not-refused, same-accepted}
 
 -- The payload's length, where a record that may stand here is whole: checks 2 and 3.
 unfoldable pub openedFrom : (ℕ → Bool) → ℕ → Header → Reading ℕ
@@ -67,3 +68,17 @@ opened-inside may b at size e = go (headerAt b at) refl e
 
 pub payload-long : (b : List ℕ) (at size : ℕ) → at + headerBytes + size ≤ length b → length (payloadAt b at size) ≡ size
 payload-long b at size h = length-take size (drop (at + headerBytes) b) ∙ (omega (arith, length-drop (at + headerBytes) b))
+
+-- an accepted record lies within the file
+pub record-inside : (may : ℕ → Bool) (fits : ℕ → List ℕ → Bool) (b : List ℕ) (at : ℕ) (r : Record) → recordAt may fits b at ≡ accepted r → r .next ≤ length b
+unfolding recordFrom
+record-inside may fits b at r e = go (headerAt b at) refl e
+  where
+    go : (h : Header) → headerAt b at ≡ h → recordFrom may fits b at h ≡ accepted r → r .next ≤ length b
+    go ended p q = let w : _≡_ {A = ℕ} 0 1 = cc in absurd (omega arith)
+    go broken p q = let w : _≡_ {A = ℕ} 0 1 = cc in absurd (omega arith)
+    go (whole k n) p q =
+        let one = not-refused (not (may k)) wrongKind at _ r q in
+        let two = not-refused (not (fits k (payloadAt b at n))) shape at _ r (one .1) in
+        let is : at + headerBytes + n ≡ r .next = ap (λ x. x .next) (same-accepted _ r (two .1)) in
+        omega (arith, whole-inside b at k n p)

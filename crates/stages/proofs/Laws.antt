@@ -13,14 +13,10 @@ use Rattle.format.specs.Reading.{Reading, accepted, refused, _andThen_, Header,
 use Rattle.format.specs.Opened.{openedFrom, opened, record-opened, opened-inside, payload-long}
 use Rattle.lists.specs.declared.Verdict.{Verdict}
 use Rattle.lists.specs.declared.Verdict.the-variants.{Fine, Refused}
-use Rattle.lists.specs.Verdicts.{readingOf}
+use Rattle.lists.specs.Verdicts.{readingOf, reading-then}
 use Rattle.lists.specs.Meaning.{simplicesOf}
 use Rattle.stages.specs.Meaning.{listRead}
 use Rattle.stages.specs.declared.ListRead.{ListRead}
-
--- what an answer is known to be, put into what the answer means
-pub told : {A B : Type 0} (means : A → B) (answer known : A) (x : B) → means answer ≡ x → answer ≡ known → x ≡ means known
-told means answer known x e k = sym e ∙ ap means k
 
 module _ (may : ℕ → Bool) (b : List ℕ) (at : ℕ) where
   pub opened-ended : headerAt b at ≡ ended → opened may b at ≡ refused wrongKind at
@@ -38,11 +34,6 @@ module _ (may : ℕ → Bool) (b : List ℕ) (at : ℕ) where
   pub opened-may-not : (kind size : ℕ) → headerAt b at ≡ whole kind size → may kind ≡ false → opened may b at ≡ refused wrongKind at
   unfolding openedFrom
   opened-may-not kind size e m = rw (e, m)
-
--- what is done with what was read is done only where nothing was refused
-pub reading-then : {A B : Type 0} (v : Verdict) (a : A) (f : A → B) → (readingOf v a andThen λ x. accepted (f x)) ≡ readingOf v (f a)
-reading-then Fine a f = refl
-reading-then (Refused n p) a f = refl
 
 -- THE LIST STAGE.
 module _ (b : List ℕ) (at kind v : ℕ) (faces : List Simplex) where

@@ -40,7 +40,7 @@ returns : tie.Need-returns Inv-loop μ-loop
 returns c =
     let at = c .before .before .before .before .before .loop in
     let edges = c .before .before .before .before .before .before .before .before .args .edges in
-    walk-refused _ _ edges _ _ (at .marks)
+    walk-refused _ _ edges (search (needs, length-mapped)) _ _ (at .marks)
     (walking-astray (at .inv) (omega arith)
     (looked-up edges _ _ _ _ (c .before .before .before .step-at .ensures) (c .before .before .find .ensures) (c .enum-told .given .1)))
 
@@ -64,7 +64,7 @@ loop-again c =
     (rank-few edges (search (needs, length-mapped)) _ _ found)
 
 returns-2 : tie.Need-returns-2 Inv-loop μ-loop
-returns-2 c = walk-read _ (c .before .loop .marks) (c .before .loop .inv) (omega arith)
+returns-2 c = walk-read _ (search (needs, length-mapped)) (c .before .loop .marks) (c .before .loop .inv) (omega arith)
 
 pub read-walk-spec : {M : Type 1} → statement M
 read-walk-spec =

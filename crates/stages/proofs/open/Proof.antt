@@ -2,7 +2,8 @@
 use mathlib.Core.Path.{sym}
 use borrow.Author.Tests.{eq-eqb, ne-eqb}
 use Rattle.records.specs.Meaning.{headerOf}
-use Rattle.stages.proofs.Laws.{told, opened-ended, opened-broken, opened-may, opened-may-not}
+use Rattle.lists.specs.Verdicts.{told}
+use Rattle.stages.proofs.Laws.{opened-ended, opened-broken, opened-may, opened-may-not}
 use borrow.Author.Needs.{needs}
 use Rattle.stages.proofs.open.Statement.{statement}
 use Rattle.stages.proofs.open.Tie as tie

@@ -9,7 +9,8 @@ use Rattle.format.specs.Reading.{accepted, readItems, itemsOf}
 use Rattle.lists.specs.Meaning.{simplicesOf}
 use Rattle.format.specs.Opened.{opened, opened-inside, payload-long}
 use Rattle.stages.specs.Meaning.{openedOf}
-use Rattle.stages.proofs.Laws.{told, refused-list, list-refused, list-uneven, list-long, list-read}
+use Rattle.lists.specs.Verdicts.{told}
+use Rattle.stages.proofs.Laws.{refused-list, list-refused, list-uneven, list-long, list-read}
 use borrow.Author.Needs.{needs}
 use Rattle.stages.proofs.read_list.Statement.{statement}
 use Rattle.stages.proofs.read_list.Tie as tie

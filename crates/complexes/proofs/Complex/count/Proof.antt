@@ -13,7 +13,7 @@ cast-result c = search needs
 returns : tie.Need-returns
 returns c =
     let a = c .before .before .args in
-    sym (length-vertices (a .self .v)) ∙ ap length (list-vertices (a .self) (a .dim) (omega arith))
+    (sym (length-vertices (a .self .v)) ∙ ap length (list-vertices (a .self) (a .dim) (omega arith)), λ few. few)
 
 list-requires : tie.Need-list-requires
 list-requires c κs = search needs
@@ -22,7 +22,7 @@ count-of-requires : tie.Need-count-of-requires
 count-of-requires c κs = search needs
 
 returns-2 : tie.Need-returns-2
-returns-2 c = c .count-of .ensures .0 ∙ ap length (c .before .list .ensures (omega arith))
+returns-2 c = (c .count-of .ensures .0 ∙ ap length (c .before .list .ensures (omega arith)), λ few. c .count-of .ensures .1)
 
 pub count-spec : {M : Type 1} → statement M
 count-spec = tie.close (tie.spec cast-result returns list-requires count-of-requires returns-2)

@@ -1,0 +1,98 @@
+// The stage of a job that says what is asked about: a chain record's positions, or a closed walk.
+use chosen::ChainRead;
+use complexes::Complex;
+use lists::Marks;
+use lists::Verdict;
+use records::Header;
+ghost use mathlib.Core.Path.{_≡_};
+ghost use Prim.Native.Nat.{_≤_};
+ghost use lib.ListN.{length};
+ghost use Rattle.format.specs.Numbers.{small};
+ghost use Rattle.format.specs.Reading.{recordAt, mayAsk, chainFits};
+ghost use Rattle.chain_stage.specs.Meaning.{chainOpened, ChainStageRead};
+
+// The record behind the lists: a chain record or a walk with the length of its payload, or the refusal's number.
+pub enum ChainOpened {
+    Positions(usize),
+    Walk(usize),
+    Refused(u16),
+}
+
+// Opens the record behind the lists: 2 cut, 3 kind (a walk only where A has dimension 1), 4 shape.
+pub fn open_chain(job: &[u8], at: usize, dim: usize) -> ChainOpened
+    ensures { λ r. ⌜ chainOpened (now (job .entry)) at r ≡ recordAt (mayAsk dim) (chainFits small) (now (job .entry)) at ⌝ }
+{
+    let header = records::header_at(job, at);
+    match header {
+        Header::Ended => ChainOpened::Refused(Verdict::KIND),
+        Header::Broken => ChainOpened::Refused(Verdict::CUT),
+        Header::Whole(kind, size) => {
+            if kind == ChainRead::CHAIN {
+                if size % 2 != 0 {
+                    return ChainOpened::Refused(Verdict::SHAPE);
+                }
+                if ChainRead::BYTES < size {
+                    return ChainOpened::Refused(Verdict::SHAPE);
+                }
+                return ChainOpened::Positions(size);
+            }
+            if kind != ChainRead::WALK {
+                return ChainOpened::Refused(Verdict::KIND);
+            }
+            if dim != 1 {
+                return ChainOpened::Refused(Verdict::KIND);
+            }
+            if ChainRead::BYTES < size {
+                return ChainOpened::Refused(Verdict::SHAPE);
+            }
+            ChainOpened::Walk(size)
+        }
+    }
+}
+
+// A's marks by rank, and the offset of the record behind its own.
+pub struct ChainStage {
+    pub verdict: Verdict,
+    pub marks: Marks,
+    pub next: usize,
+}
+
+// Reads what is asked about, over the complex as the file lists it.
+pub fn read_chain(job: &[u8], at: usize, dim: usize, complex: Complex) -> ChainStage
+    requires { ⌜ (length (now job) ≤ 6690) × (complex .v ≤ 256) ⌝ }
+    ensures { λ r. ⌜ ChainStageRead (now (job .entry)) at dim complex r ⌝ }
+{
+    let opened = open_chain(job, at, dim);
+    match opened {
+        ChainOpened::Refused(number) => ChainStage {
+            verdict: Verdict::Refused(number, at),
+            marks: Marks::none(),
+            next: at,
+        },
+        ChainOpened::Positions(size) => {
+            let start = at + Header::BYTES;
+            let p = records::payload(job, at, size);
+            let read = chosen::read_positions(p, start, complex.count(dim));
+            let verdict = read.verdict;
+            let marks = read.marks;
+            ChainStage {
+                verdict,
+                marks,
+                next: start + size,
+            }
+        }
+        ChainOpened::Walk(size) => {
+            let start = at + Header::BYTES;
+            let p = records::payload(job, at, size);
+            let edges = complex.edges;
+            let read = chosen::read_walk(p, start, edges);
+            let verdict = read.verdict;
+            let marks = read.marks;
+            ChainStage {
+                verdict,
+                marks,
+                next: start + size,
+            }
+        }
+    }
+}
