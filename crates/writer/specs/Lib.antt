@@ -1,0 +1,3 @@
+-- What the job writer does to the lent bytes.
+pub mod Splice
+pub mod Meaning
