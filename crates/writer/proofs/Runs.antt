@@ -67,7 +67,7 @@ simplices-fit l i at n h =
     omega (arith, ap length (ap listBytes (sym (take-append-drop i l)) ∙ listBytes-append (take i l) (drop i l)), length-append (listBytes (take i l)) (listBytes (drop i l)))
 
 -- MARKS: the positions of the first ones that are on.
-places-append : (k : ℕ) (marks more : List Bool) → placesFrom k (marks ++ more) ≡ placesFrom k marks ++ placesFrom (k + length marks) more
+pub places-append : (k : ℕ) (marks more : List Bool) → placesFrom k (marks ++ more) ≡ placesFrom k marks ++ placesFrom (k + length marks) more
 unfolding placesFrom
 places-append k [] more = ap (λ n. placesFrom n more) (sym (add-zero k))
 places-append k (true ∷ marks) more =
