@@ -211,25 +211,33 @@ within-complex A X Y r (suc (suc zero)) within = within-reordered A (X .triangle
 within-complex A X Y r (suc (suc (suc zero))) within = within-reordered A (X .tetrahedra) (Y .tetrahedra) (r .tetrahedra) within
 within-complex A X Y r (suc (suc (suc (suc k)))) within = within
 
--- the same after all edits of a file
-pub edits-sound : (L : Limits) (A : SimplexSet) (k left : ℕ) (b : List ℕ) (at : ℕ) (X Y : Complex) → readEdits left b at X ≡ accepted Y → SoundComplex L X → Within A (simplices X k) → SoundComplex L Y × Within A (simplices Y k)
+-- What one edit keeps, all edits of a file keep.
+pub edits-keep : (P : Complex → Type 0) → ((X Z : Complex) → ReorderedComplex X Z → P X → P Z) → (left : ℕ) (b : List ℕ) (at : ℕ) (X Y : Complex) → readEdits left b at X ≡ accepted Y → P X → P Y
 unfolding readEdits recordFrom
-edits-sound L A k zero b at X Y e sound within = go (leb (length b) at) (headerAt b at) e
+edits-keep P keeps zero b at X Y e known = go (leb (length b) at) (headerAt b at) e
   where
-    go : (x : Bool) (h : Header) → cond x (accepted X) (recordFrom (λ _. false) (λ _ _. true) b at h andThen λ _. accepted X) ≡ accepted Y → SoundComplex L Y × Within A (simplices Y k)
-    go true h e = subst (λ x. SoundComplex L x × Within A (simplices x k)) (same-accepted X Y e) (sound, within)
+    go : (x : Bool) (h : Header) → cond x (accepted X) (recordFrom (λ _. false) (λ _ _. true) b at h andThen λ _. accepted X) ≡ accepted Y → P Y
+    go true h e = subst P (same-accepted X Y e) known
     go false ended e = let z : _≡_ {A = ℕ} 0 1 = cc in absurd (omega arith)
     go false broken e = let z : _≡_ {A = ℕ} 0 1 = cc in absurd (omega arith)
     go false (whole kind size) e = let z : _≡_ {A = ℕ} 0 1 = cc in absurd (omega arith)
-edits-sound L A k (suc left) b at X Y e sound within =
-    go (leb (length b) at) e (λ r Z z f. edits-sound L A k left b (r .next) Z Y f (complex-reordered L X Z z sound) (within-complex A X Z z k within))
+edits-keep P keeps (suc left) b at X Y e known =
+    go (leb (length b) at) e (λ r Z z f. edits-keep P keeps left b (r .next) Z Y f (keeps X Z z known))
   where
-    go : (x : Bool) → cond x (accepted X) (recordAt (eqb editKind) (λ _ p. editFits p) b at andThen λ r. edited at (r .payload) X andThen λ Z. readEdits left b (r .next) Z) ≡ accepted Y → ((r : Record) (Z : Complex) → ReorderedComplex X Z → readEdits left b (r .next) Z ≡ accepted Y → SoundComplex L Y × Within A (simplices Y k)) → SoundComplex L Y × Within A (simplices Y k)
-    go true e later = subst (λ x. SoundComplex L x × Within A (simplices x k)) (same-accepted X Y e) (sound, within)
+    go : (x : Bool) → cond x (accepted X) (recordAt (eqb editKind) (λ _ p. editFits p) b at andThen λ r. edited at (r .payload) X andThen λ Z. readEdits left b (r .next) Z) ≡ accepted Y → ((r : Record) (Z : Complex) → ReorderedComplex X Z → readEdits left b (r .next) Z ≡ accepted Y → P Y) → P Y
+    go true e later = subst P (same-accepted X Y e) known
     go false e later =
         let one = both-accepted (recordAt (eqb editKind) (λ _ p. editFits p) b at) _ Y e in
         let two = both-accepted (edited at (one .0 .payload) X) _ Y (one .2) in
         later (one .0) (two .0) (edited-reorders at (one .0 .payload) X (two .0) (two .1)) (two .2)
+
+pub edits-sound : (L : Limits) (A : SimplexSet) (k left : ℕ) (b : List ℕ) (at : ℕ) (X Y : Complex) → readEdits left b at X ≡ accepted Y → SoundComplex L X → Within A (simplices X k) → SoundComplex L Y × Within A (simplices Y k)
+edits-sound L A k left b at X Y e sound within =
+    edits-keep (λ Z. SoundComplex L Z × Within A (simplices Z k))
+    (λ X Z z p. (complex-reordered L X Z z (p .0), within-complex A X Z z k (p .1))) left b at X Y e (sound, within)
+
+pub edits-vertices : (left : ℕ) (b : List ℕ) (at : ℕ) (X Y : Complex) → readEdits left b at X ≡ accepted Y → X .v ≡ Y .v
+edits-vertices left b at X Y e = edits-keep (λ Z. X .v ≡ Z .v) (λ W Z z p. p ∙ sym (z .v)) left b at X Y e refl
 
 -- THE WHOLE: every job that was read is sound.
 pub accepted-sound : (L : Limits) (b : List ℕ) (j : Job) → reading L b ≡ accepted j → SoundJob L j

@@ -1,12 +1,15 @@
 -- What the head's test comes to, case by case of the question.
 use Prim.Native.Nat.{ℕ, _≤_, _<_}
-use mathlib.Core.Path.{_≡_, refl, sym, _∙_, ap}
+use mathlib.Core.Path.{_≡_, refl, sym, _∙_, ap, subst}
 use mathlib.Core.Bool.{Bool, true, false, not, _&&_, _||_, and-false}
 use mathlib.Core.List.{List}
+use mathlib.Core.Logic.{_⊎_, inl, inr}
 use native.Mathlib.Omega.{arith}
 use lib.Dec.{eqb, leb}
 use lib.ListN.{getD}
-use borrow.Author.Tests.{eq-eqb, ne-eqb, le-leb, lt-leb}
+use borrow.Author.Tests.{eqb-true, eq-eqb, ne-eqb, le-leb, lt-leb}
+use Rattle.heads.specs.declared.Head.{Head}
+use Rattle.heads.specs.declared.HeadRead.the-variants.{Sound, Bad}
 use Rattle.format.specs.Numbers.{small, badHead}
 use Rattle.format.specs.Reading.{Reading, accepted, refused, readHead, dimensionFits, questionOf, headOf, u16At}
 
@@ -41,3 +44,20 @@ module _ (p : List ℕ) where
 
   pub same-head : (q d v : ℕ) → q ≡ getD p 0 0 → d ≡ getD p 1 0 → v ≡ u16At p 2 → accepted (record { question = questionOf q; d = d; v = v }) ≡ accepted (headOf p)
   same-head q d v a b c = rw (a, b, c)
+
+-- a question that may be asked is one of the two
+pub asks-one : (q d : ℕ) → asks q d ≡ true → (q ≡ 1) ⊎ (q ≡ 2)
+asks-one q d e = go (eqb q 1) refl (eqb q 2) refl e
+  where
+    go : (x : Bool) → eqb q 1 ≡ x → (y : Bool) → eqb q 2 ≡ y → (x || y) && dimensionFits (questionOf q) d ≡ true → (q ≡ 1) ⊎ (q ≡ 2)
+    go true p y r e = inl (eqb-true q 1 p)
+    go false p true r e = inr (eqb-true q 2 r)
+    go false p false r e = let z : _≡_ {A = ℕ} 0 1 = cc in absurd (omega arith)
+
+pub sound-asks : (h : Head) (q d : ℕ) → h .question ≡ q → asks q d ≡ true → (g : Head) → Sound h ≡ Sound g → (g .question ≡ 1) ⊎ (g .question ≡ 2)
+sound-asks h q d e a g f =
+    let same : h ≡ g = cc in
+    subst (λ n. (n ≡ 1) ⊎ (n ≡ 2)) (sym e ∙ ap (λ x. x .question) same) (asks-one q d a)
+
+pub bad-asks : (g : Head) → Bad ≡ Sound g → (g .question ≡ 1) ⊎ (g .question ≡ 2)
+bad-asks g f = let z : _≡_ {A = ℕ} 0 1 = cc in absurd (omega arith)

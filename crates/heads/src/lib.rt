@@ -3,9 +3,8 @@ ghost use mathlib.Core.Path.{_≡_};
 ghost use mathlib.Core.Bool.{_&&_, _||_};
 ghost use lib.Dec.{eqb, leb};
 ghost use Prim.Native.Nat.{_<_};
-ghost use Rattle.format.specs.Numbers.{small};
-ghost use Rattle.format.specs.Reading.{readHead, dimensionFits, questionOf};
-ghost use Rattle.heads.specs.Meaning.{headReading};
+ghost use Rattle.format.specs.Reading.{dimensionFits, questionOf};
+ghost use Rattle.heads.specs.Meaning.{HeadKnown};
 
 pub struct Head {
     pub question: u8,
@@ -57,7 +56,7 @@ pub fn may_ask(question: usize, d: usize) -> bool
 }
 
 pub fn read_head(p: &[u8]) -> HeadRead
-    ensures { λ r. ⌜ headReading r ≡ readHead small (now (p .entry)) ⌝ }
+    ensures { λ r. ⌜ HeadKnown (now (p .entry)) r ⌝ }
 {
     let question = records::byte_at(p, 0);
     let d = records::byte_at(p, 1);

@@ -3,7 +3,7 @@ use native.Mathlib.Omega.{arith}
 use mathlib.Core.Path.{_≡_, sym, _∙_}
 use mathlib.Core.Bool.{true, false}
 use lib.ListN.{getD}
-use Rattle.heads.proofs.Laws.{asks, head-read, head-crowded, head-unasked, same-head}
+use Rattle.heads.proofs.Laws.{asks, head-read, head-crowded, head-unasked, same-head, sound-asks, bad-asks}
 use borrow.Author.Needs.{needs}
 use Rattle.heads.proofs.read_head.Statement.{statement}
 use Rattle.heads.proofs.read_head.Tie as tie
@@ -37,18 +37,22 @@ returns c =
     let p = c .before .before .before .before .before .before .before .before .args .p .now in
     let a : asks (getD p 0 0) (getD p 1 0) ≡ true = cc in
     let h = c .new .result in
-    same-head p (h .question) (h .d) (h .v) (cc) (cc) (cc) ∙ sym (head-read p a (omega arith))
+    let q : h .question ≡ getD p 0 0 = cc in
+    record {
+      reading = same-head p (h .question) (h .d) (h .v) q (cc) (cc) ∙ sym (head-read p a (omega arith));
+      asks = sound-asks h (getD p 0 0) (getD p 1 0) q a;
+    }
 
 returns-2 : tie.Need-returns-2
 returns-2 c =
     let p = c .before .before .before .before .before .before .before .args .p .now in
-    sym (head-crowded p (omega arith))
+    record { reading = sym (head-crowded p (omega arith)); asks = bad-asks }
 
 returns-3 : tie.Need-returns-3
 returns-3 c =
     let p = c .before .before .before .before .before .before .args .p .now in
     let a : asks (getD p 0 0) (getD p 1 0) ≡ false = cc in
-    sym (head-unasked p a)
+    record { reading = sym (head-unasked p a); asks = bad-asks }
 
 pub read-head-spec : {M : Type 1} → statement M
 read-head-spec =

@@ -1,0 +1,118 @@
+-- What each stage's verdict comes to: a refusal is the whole reading's, and otherwise the rest of the definition follows.
+use Prim.Native.Nat.{ℕ, suc, _+_, _≤_, _<_}
+use mathlib.Core.Path.{_≡_, refl, sym, _∙_, ap, subst}
+use mathlib.Core.Bool.{Bool, true, false, not}
+use mathlib.Core.Logic.{_⊎_, inl, inr}
+use mathlib.Core.List.{List, []}
+use native.Mathlib.Omega.{arith}
+use lib.ListN.{length}
+use lib.Dec.{eqb, leb, ltb}
+use borrow.Author.Tests.{lt-ltb, le-ltb, eq-eqb, ne-eqb}
+use Rattle.format.specs.Numbers.{small, tooLong, shape, badHead, headKind, edgesKind, trianglesKind, tetrahedraKind}
+use Rattle.format.specs.Simplex.{Simplex, SimplexSet, simplices}
+use Rattle.format.specs.Simplex as format
+use Rattle.format.specs.Reading.{Reading, accepted, refused, _andThen_, Listing, Chosen, readList, readChain, readEdits, readHead, afterHead, afterLists, reading, recordAt, headFits, payloadAt, chainDimension, questionOf}
+use Rattle.format.specs.Reading as reader
+use Rattle.format.specs.Opened.{opened, record-opened, opened-inside, payload-long}
+use Rattle.format.specs.Sound.{SoundList, SoundComplex}
+use Rattle.format.specs.Accepted.{list-sound, edits-vertices}
+use Rattle.format.specs.Marks.{Once, simplices-once}
+use Rattle.lists.specs.Meaning.{simplicesOf}
+use Rattle.lists.specs.Verdicts.{readingOf, reading-then, told}
+use Rattle.lists.specs.declared.Verdict.{Verdict}
+use Rattle.lists.specs.declared.Verdict.the-variants.{Fine, Refused}
+use Rattle.heads.specs.declared.Head.{Head}
+use Rattle.heads.specs.Meaning.{headOf}
+use Rattle.stages.specs.Meaning.{listRead}
+use Rattle.stages.specs.declared.ListRead.{ListRead}
+use Rattle.complexes.specs.Meaning.{jobOf, complexOf, listOf, Marked}
+use Rattle.complexes.specs.declared.Complex.{Complex}
+use Rattle.complexes.specs.declared.Job.{Job}
+use Rattle.jobs.specs.Meaning.{Outcome, SoundHead, ListSound, afterEdges, afterTriangles}
+use Rattle.jobs.specs.declared.JobRead.{JobRead}
+
+-- A REFUSAL of a stage is the outcome.
+pub outcome-refused : (r : Reading reader.Job) (j : JobRead) (n p : ℕ) → r ≡ refused n p → j .verdict ≡ Refused n p → Outcome r j
+outcome-refused r j n p e v =
+    record {
+      set = λ s. false;
+      is = e ∙ ap (λ x. readingOf x (jobOf (j .job) (λ s. false))) (sym v);
+      marks = λ f. let z : _≡_ {A = ℕ} 0 1 = cc in absurd (omega arith);
+      head = λ f. let z : _≡_ {A = ℕ} 0 1 = cc in absurd (omega arith);
+      v = λ f. let z : _≡_ {A = ℕ} 0 1 = cc in absurd (omega arith);
+    }
+
+-- what is read as one thing is read as what that is
+pub outcome-same : {r s : Reading reader.Job} (j : JobRead) → r ≡ s → Outcome s j → Outcome r j
+outcome-same j e o = subst (λ x. Outcome x j) (sym e) o
+
+-- A LIST that was read, by its verdict.
+pub list-refused : (b : List ℕ) (at kind v : ℕ) (faces : List Simplex) (r : ListRead) (n p : ℕ) → listRead r ≡ readList small b at kind v faces → r .verdict ≡ Refused n p → readList small b at kind v faces ≡ refused n p
+list-refused b at kind v faces r n p e f =
+    sym e ∙ ap (λ x. readingOf x (record { list = simplicesOf (r .list); next = r .next })) f
+
+pub list-fine : (b : List ℕ) (at kind v : ℕ) (faces : List Simplex) (r : ListRead) → listRead r ≡ readList small b at kind v faces → r .verdict ≡ Fine → readList small b at kind v faces ≡ accepted (record { list = simplicesOf (r .list); next = r .next })
+list-fine b at kind v faces r e f =
+    sym e ∙ ap (λ x. readingOf x (record { list = simplicesOf (r .list); next = r .next })) f
+
+pub list-known : (b : List ℕ) (at kind v : ℕ) (faces : List Simplex) (l : Listing) → 0 < kind → readList small b at kind v faces ≡ accepted l → ListSound kind v faces (l .list)
+list-known b at kind v faces l positive e =
+    let known = list-sound small b at kind v faces l positive e in
+    record { sound = known .0; few = known .1 }
+
+-- THE STAGES of the definition, one behind the other.
+module _ (b : List ℕ) (at : ℕ) (h : reader.Head) where
+  pub edges-refused : (n p : ℕ) → readList small b at edgesKind (h .v) [] ≡ refused n p → afterHead small b at h ≡ refused n p
+  unfolding afterHead
+  edges-refused n p e = rw e
+
+  pub edges-fine : (l : Listing) → readList small b at edgesKind (h .v) [] ≡ accepted l → afterHead small b at h ≡ afterEdges b h (l .next) (l .list)
+  unfolding afterHead
+  edges-fine l e = rw e
+
+  pub triangles-refused : (edges : List Simplex) (n p : ℕ) → readList small b at trianglesKind (h .v) edges ≡ refused n p → afterEdges b h at edges ≡ refused n p
+  triangles-refused edges n p e = rw e
+
+  pub triangles-fine : (edges : List Simplex) (l : Listing) → readList small b at trianglesKind (h .v) edges ≡ accepted l → afterEdges b h at edges ≡ afterTriangles b h (l .next) edges (l .list)
+  triangles-fine edges l e = rw e
+
+  pub tetrahedra-refused : (edges triangles : List Simplex) (n p : ℕ) → readList small b at tetrahedraKind (h .v) triangles ≡ refused n p → afterTriangles b h at edges triangles ≡ refused n p
+  tetrahedra-refused edges triangles n p e = rw e
+
+  pub tetrahedra-fine : (edges triangles : List Simplex) (l : Listing) → readList small b at tetrahedraKind (h .v) triangles ≡ accepted l → afterTriangles b h at edges triangles ≡ afterLists small b h (l .next) (record { v = h .v; edges = edges; triangles = triangles; tetrahedra = l .list })
+  tetrahedra-fine edges triangles l e = rw e
+
+  pub chain-refused : (X : format.Complex) (n p : ℕ) → readChain small b at (chainDimension (h .question) (h .d)) X ≡ refused n p → afterLists small b h at X ≡ refused n p
+  unfolding afterLists
+  chain-refused X n p e = rw e
+
+  pub edits-read : (X : format.Complex) (A : Chosen) (verdict : Verdict) (Y : format.Complex) → readChain small b at (chainDimension (h .question) (h .d)) X ≡ accepted A → readEdits 64 b (A .next) X ≡ readingOf verdict Y → afterLists small b h at X ≡ readingOf verdict (record { question = h .question; d = h .d; complex = Y; chain = A .chain })
+  unfolding afterLists
+  edits-read X A verdict Y e f = rw (e, f) (reading-then verdict Y (λ Z. record { question = h .question; d = h .d; complex = Z; chain = A .chain }))
+
+-- THE HEAD'S RECORD.
+module _ (b : List ℕ) where
+  pub job-long : 6690 < length b → reading small b ≡ refused tooLong 0
+  unfolding reading
+  job-long h = rw (lt-ltb 6690 (length b) h)
+
+  module _ (fits : length b ≤ 6690) where
+    pub head-refused : (number : ℕ) → opened (eqb headKind) b 0 ≡ refused number 0 → reading small b ≡ refused number 0
+    unfolding reading
+    head-refused number e = rw (le-ltb 6690 (length b) fits, record-opened headFits b 0 headKind, e)
+
+    module _ (size : ℕ) (whole : opened (eqb headKind) b 0 ≡ accepted size) where
+      long : length (payloadAt b 0 size) ≡ size
+      long = payload-long b 0 size (opened-inside (eqb headKind) b 0 size whole)
+
+      pub head-misshapen : (size ≡ 4 → ⊥) → reading small b ≡ refused shape 0
+      unfolding reading
+      head-misshapen n = rw (le-ltb 6690 (length b) fits, record-opened headFits b 0 headKind, whole, long, ne-eqb size 4 n)
+
+      pub head-bad : size ≡ 4 → readHead small (payloadAt b 0 size) ≡ refused badHead 0 → reading small b ≡ refused badHead 0
+      unfolding reading
+      head-bad n e = rw (le-ltb 6690 (length b) fits, record-opened headFits b 0 headKind, whole, long, eq-eqb size 4 n, e)
+
+      pub head-fine : size ≡ 4 → (h : reader.Head) → readHead small (payloadAt b 0 size) ≡ accepted h → reading small b ≡ afterHead small b 10 h
+      unfolding reading
+      head-fine n h e = rw (le-ltb 6690 (length b) fits, record-opened headFits b 0 headKind, whole, long, eq-eqb size 4 n, e, n)

@@ -1,0 +1,2 @@
+-- What reading a job comes to, stage by stage.
+pub mod Meaning
