@@ -28,3 +28,5 @@ pub mod Normal
 pub mod RoundTrip
 -- sets of simplices as marks by rank
 pub mod Marks
+-- where refusals point
+pub mod Places

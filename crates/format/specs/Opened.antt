@@ -1,6 +1,6 @@
 -- Laws of a record's first checks, 2 cut and 3 kind, and then 4 shape: what each outcome of the header comes to.
 use Prim.Native.Nat.{ℕ, _+_, _≤_, _<_}
-use mathlib.Core.Path.{_≡_, refl, sym, _∙_, ap}
+use mathlib.Core.Path.{_≡_, refl, sym, _∙_, ap, subst}
 use mathlib.Core.Bool.{Bool, true, false, not, cond}
 use mathlib.Core.List.{List}
 use native.Mathlib.Omega.{arith}
@@ -69,16 +69,24 @@ opened-inside may b at size e = go (headerAt b at) refl e
 pub payload-long : (b : List ℕ) (at size : ℕ) → at + headerBytes + size ≤ length b → length (payloadAt b at size) ≡ size
 payload-long b at size h = length-take size (drop (at + headerBytes) b) ∙ (omega (arith, length-drop (at + headerBytes) b))
 
--- an accepted record lies within the file
-pub record-inside : (may : ℕ → Bool) (fits : ℕ → List ℕ → Bool) (b : List ℕ) (at : ℕ) (r : Record) → recordAt may fits b at ≡ accepted r → r .next ≤ length b
+-- An accepted record is whole: it lies within the file, and its payload ends where the next record begins.
+pub record RecordWhole (b : List ℕ) (at : ℕ) (r : Record) : Type 0 where
+  pub inside : r .next ≤ length b
+  pub ends : at + headerBytes + length (r .payload) ≡ r .next
+
+pub record-whole : (may : ℕ → Bool) (fits : ℕ → List ℕ → Bool) (b : List ℕ) (at : ℕ) (r : Record) → recordAt may fits b at ≡ accepted r → RecordWhole b at r
 unfolding recordFrom
-record-inside may fits b at r e = go (headerAt b at) refl e
+record-whole may fits b at r e = go (headerAt b at) refl e
   where
-    go : (h : Header) → headerAt b at ≡ h → recordFrom may fits b at h ≡ accepted r → r .next ≤ length b
+    go : (h : Header) → headerAt b at ≡ h → recordFrom may fits b at h ≡ accepted r → RecordWhole b at r
     go ended p q = let w : _≡_ {A = ℕ} 0 1 = cc in absurd (omega arith)
     go broken p q = let w : _≡_ {A = ℕ} 0 1 = cc in absurd (omega arith)
     go (whole k n) p q =
         let one = not-refused (not (may k)) wrongKind at _ r q in
         let two = not-refused (not (fits k (payloadAt b at n))) shape at _ r (one .1) in
-        let is : at + headerBytes + n ≡ r .next = ap (λ x. x .next) (same-accepted _ r (two .1)) in
-        omega (arith, whole-inside b at k n p)
+        let inside = whole-inside b at k n p in
+        subst (RecordWhole b at) (same-accepted _ r (two .1))
+        (record { inside = inside; ends = ap (λ x. at + headerBytes + x) (payload-long b at n inside) })
+
+pub record-inside : (may : ℕ → Bool) (fits : ℕ → List ℕ → Bool) (b : List ℕ) (at : ℕ) (r : Record) → recordAt may fits b at ≡ accepted r → r .next ≤ length b
+record-inside may fits b at r e = record-whole may fits b at r e .inside

@@ -1,9 +1,12 @@
 // The job reader: every byte string becomes a job or a numbered refusal with its place. Each stage hands on to the next.
-use complexes::{Complex, Job};
-use heads::{Head, HeadRead};
-use lists::{Marks, SimplexList, Verdict};
+use complexes::Complex;
+use complexes::Job;
+use heads::Head;
+use heads::HeadRead;
+use lists::Marks;
+use lists::SimplexList;
+use lists::Verdict;
 use stages::Opened;
-
 ghost use mathlib.Core.Path.{_≡_};
 ghost use mathlib.Core.List.{[]};
 ghost use Prim.Native.Nat.{_≤_};
@@ -87,7 +90,13 @@ fn after_lists(job: &[u8], head: Head, at: usize, complex: Complex) -> JobRead
 }
 
 // The tetrahedra, over the triangles.
-fn after_triangles(job: &[u8], head: Head, at: usize, edges: SimplexList, triangles: SimplexList) -> JobRead
+fn after_triangles(
+    job: &[u8],
+    head: Head,
+    at: usize,
+    edges: SimplexList,
+    triangles: SimplexList,
+) -> JobRead
     requires { ⌜ length (now job) ≤ 6690 ⌝ }
     requires { ⌜ SoundHead head ⌝ }
     requires { ⌜ ListSound 2 (head .v) [] (simplicesOf edges) ⌝ }
