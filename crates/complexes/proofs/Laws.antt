@@ -3,7 +3,6 @@ use Prim.Native.Nat.{ℕ, zero, suc, _≤_, _<_}
 use mathlib.Core.Path.{_≡_, refl, sym, _∙_, ap}
 use mathlib.Core.List.{List, []}
 use native.Mathlib.Omega.{arith}
-use lib.ListN.{length, length-append}
 use Rattle.format.specs.Simplex.{Simplex, simplices, vertexList}
 use Rattle.format.specs.Simplex as format
 use Rattle.lists.specs.Meaning.{simplicesOf}
@@ -36,9 +35,3 @@ module _ (X : Complex) (dim : ℕ) where
   pub list-vertices : dim ≡ 0 → vertexList (X .v) ≡ listOf X dim
   unfolding simplices
   list-vertices e = rw e
-
--- there are v vertices
-pub length-vertices : (v : ℕ) → length (vertexList v) ≡ v
-unfolding vertexList
-length-vertices zero = refl
-length-vertices (suc v) = length-append (vertexList v) _ ∙ (omega (arith, length-vertices v))

@@ -9,6 +9,7 @@ pub mod Promise
 -- laws of the definitions
 pub mod Listed
 pub mod Lookup
+pub mod Vertices
 pub mod Moves
 pub mod Facets
 pub mod Items

@@ -48,7 +48,7 @@ run-ends {l} {at} {upTo} {n} {now} {next} {i} here done =
     record { lent = here .written ∙ ap (λ k. splice l at (upTo k)) end; next = here .reached ∙ ap (λ k. at + length (upTo k)) end }
 
 -- LISTS: the bytes of the first simplices.
-listBytes-append : (k l : List Simplex) → listBytes (k ++ l) ≡ listBytes k ++ listBytes l
+pub listBytes-append : (k l : List Simplex) → listBytes (k ++ l) ≡ listBytes k ++ listBytes l
 unfolding listBytes
 listBytes-append [] l = refl
 listBytes-append (s ∷ k) l = ap (_++_ (simplexBytes s)) (listBytes-append k l) ∙ sym (append-assoc (simplexBytes s) (listBytes k) (listBytes l))

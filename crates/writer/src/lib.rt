@@ -14,7 +14,7 @@ ghost use Rattle.writer.specs.Splice.{splice};
 ghost use Rattle.writer.specs.Meaning.{simplexBytes, listBytes, headerOfSize, markPiece, markBytes, Put, headRecord, jobBytes};
 
 // A number in two bytes, little-endian.
-fn put_u16(out: &mut [u8], at: usize, n: usize)
+pub fn put_u16(out: &mut [u8], at: usize, n: usize)
     requires { ⌜ at + 2 ≤ length (now out) ⌝ }
     ensures { λ _. ⌜ now (out .exit) ≡ splice (now (out .entry)) at (u16Bytes n) ⌝ }
 {

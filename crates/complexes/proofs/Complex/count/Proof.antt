@@ -2,7 +2,8 @@
 use native.Mathlib.Omega.{arith}
 use mathlib.Core.Path.{sym, _∙_, ap}
 use lib.ListN.{length}
-use Rattle.complexes.proofs.Laws.{length-vertices, list-vertices}
+use Rattle.format.specs.Vertices.{length-vertices}
+use Rattle.complexes.proofs.Laws.{list-vertices}
 use borrow.Author.Needs.{needs}
 use Rattle.complexes.proofs.Complex.count.Statement.{statement}
 use Rattle.complexes.proofs.Complex.count.Tie as tie

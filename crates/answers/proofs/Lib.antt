@@ -1,0 +1,2 @@
+-- Laws and the loops' invariant that this crate's proofs share.
+pub mod Members

@@ -1,0 +1,51 @@
+// Answer records: a refusal, or a chain's members in rising rank.
+use lists::Simplex;
+use lists::SimplexList;
+ghost use mathlib.Core.Path.{_≡_};
+ghost use Prim.Native.Nat.{_+_, _≤_};
+ghost use lib.ListN.{length};
+ghost use Rattle.format.specs.Answer.{refusalRecord};
+ghost use Rattle.lists.specs.Meaning.{verticesOf, simplicesOf};
+ghost use Rattle.columns.specs.Column.{chainOf};
+ghost use Rattle.writer.specs.Meaning.{Put, simplexBytes};
+ghost use Rattle.answers.specs.Meaning.{memberBytes, memberPiece};
+
+// A refusal's record, twelve bytes: the number in two, the place in four.
+pub fn put_refusal(out: &mut [u8], number: u16, place: usize) -> usize
+    requires { ⌜ 12 ≤ length (now out) ⌝ }
+    ensures { λ r. ⌜ Put (now (out .entry)) 0 (refusalRecord number place) (now (out .exit)) r ⌝ }
+{
+    writer::put_header(out, 0, 17, 6);
+    writer::put_u16(out, 6, number as usize);
+    writer::put_u16(out, 8, place % 65536);
+    writer::put_u16(out, 10, place / 65536);
+    12
+}
+
+// A simplex, where it is a member; the place behind it.
+fn put_member(out: &mut [u8], at: usize, s: Simplex, on: bool) -> usize
+    requires { ⌜ at + length (memberPiece (verticesOf s) on) ≤ length (now out) ⌝ }
+    ensures { λ r. ⌜ Put (now (out .entry)) at (memberPiece (verticesOf s) on) (now (out .exit)) r ⌝ }
+{
+    if on {
+        writer::put_simplex(out, at, s);
+        at + s.size()
+    } else {
+        at
+    }
+}
+
+// The members of a chain of a list, one behind the other; the place behind them.
+pub fn put_members(out: &mut [u8], at: usize, list: SimplexList, col: &[u8]) -> usize
+    requires { ⌜ at + length (memberBytes (chainOf (now col)) (simplicesOf list)) ≤ length (now out) ⌝ }
+    ensures { λ r. ⌜ Put (now (out .entry)) at (memberBytes (chainOf (now (col .entry))) (simplicesOf list)) (now (out .exit)) r ⌝ }
+{
+    let n = complexes::count_of(list);
+    let mut next = at;
+    let mut i = 0;
+    while i < n {
+        next = put_member(out, next, list.items[i], columns::test(col, i));
+        i += 1;
+    }
+    next
+}
