@@ -14,6 +14,7 @@ pub mod Moves
 pub mod Facets
 pub mod Items
 pub mod Opened
+pub mod EditLaws
 pub mod Matrix
 -- no second outcome meets a promise, and every file has one
 pub mod Unique
