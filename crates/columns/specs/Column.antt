@@ -19,10 +19,6 @@ bitAt l i = bit (getD l (i / 8) 0) (i % 8)
 abbrev pub chainOf : List ℕ → Chain
 chainOf l = bitAt l
 
--- the chain that holds the one rank i
-abbrev pub unit : ℕ → Chain
-unit i = λ j. eqb i j
-
 -- The sum of two columns, byte by byte. It is as long as the first; a second that is shorter counts as followed by zeros.
 abbrev pub xorBytes : List ℕ → List ℕ → List ℕ
 xorBytes [] b = []

@@ -3,7 +3,7 @@
 use Prim.Native.Nat.{ℕ, zero, suc, _+_, _-_, _*_, _/_, _%_, _^_, _≤_, _<_}
 use mathlib.Core.Path.{_≡_, refl, sym, ap, ap₂, _∙_, fun-ext}
 use mathlib.Core.Logic.{_⊎_, inl, inr, ⊎-elim, _≢_}
-use mathlib.Core.Bool.{Bool, true, false, true≢false, false≢true}
+use mathlib.Core.Bool.{true, false, true≢false, false≢true}
 use mathlib.Core.List.{List, [], _∷_}
 use native.Mathlib.Nat.{div-eq-of-lt, div-one, div-self, mod-lt, mul-mod-left, pow-suc}
 use native.Mathlib.Numerals.{one-add}
@@ -15,8 +15,9 @@ use lib.Seq.{getD-set-same, getD-set-other, set-out, ext-getD}
 use lib.Pow.{pow-pos, pow-add, pow-lt, shl-shr, shr-shr}
 use lib.Bits.{bitXor, xor-shr, xor-mod, xor-zero-r}
 use borrow.Author.Tests.{eq-eqb, ne-eqb}
-use Rattle.chains.specs.Chain.{Chain, differ, _⊕_, empty, Under}
-use Rattle.columns.specs.Column.{bit, bitAt, chainOf, unit, xorBytes, flipped}
+use Rattle.chains.specs.Chain.{Chain, differ, _⊕_, empty, unit, Under}
+use Rattle.chains.specs.Sum.{differ-false}
+use Rattle.columns.specs.Column.{bit, bitAt, chainOf, xorBytes, flipped}
 
 -- ---- one bit of one byte
 
@@ -116,10 +117,6 @@ length-flipped l i = length-set l (i / 8) _
 pub flipped-past : (l : List ℕ) (i : ℕ) → 8 * length l ≤ i → flipped l i ≡ l
 unfolding flipped
 flipped-past l i h = set-out l (i / 8) _ (omega arith)
-
-pub differ-false : (b : Bool) → differ b false ≡ b
-differ-false true = refl
-differ-false false = refl
 
 -- in one byte, ranks are the same where their bits are
 same-bit : (i j : ℕ) → i / 8 ≡ j / 8 → eqb (i % 8) (j % 8) ≡ eqb i j

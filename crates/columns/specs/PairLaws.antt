@@ -11,9 +11,10 @@ use lib.Dec.{eqb}
 use lib.ListN.{length, getD, take, drop, replicate, length-take}
 use lib.Seq.{getD-take, getD-drop}
 use borrow.Author.Tests.{eq-eqb, ne-eqb}
-use Rattle.chains.specs.Chain.{Chain, differ, _⊕_, empty}
-use Rattle.columns.specs.Column.{bit, bitAt, chainOf, unit, flipped}
-use Rattle.columns.specs.ColumnLaws.{differ-false, chainOf-zeros, chainOf-under, chainOf-flipped}
+use Rattle.chains.specs.Chain.{Chain, differ, _⊕_, empty, unit}
+use Rattle.chains.specs.Sum.{differ-false}
+use Rattle.columns.specs.Column.{bit, bitAt, chainOf, flipped}
+use Rattle.columns.specs.ColumnLaws.{chainOf-zeros, chainOf-under, chainOf-flipped}
 use Rattle.columns.specs.Slot.{halfR, halfV, chainR, chainV, slot, occupiedAt}
 use Rattle.columns.specs.SlotLaws.{bit-halfR}
 

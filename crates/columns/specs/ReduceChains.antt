@@ -1,22 +1,20 @@
 -- The reduction on chains. The halves of a sum are sums, so each row does to the two chains in hand what it does to the
 -- bytes: at a row that is held and whose slot is occupied, the slot's chains are added.
 use Prim.Native.Nat.{ℕ, zero, suc, _*_, _≤_, _<_}
-use mathlib.Core.Path.{_≡_, refl, sym, ap, ap₂, _∙_, subst, subst₂, fun-ext}
+use mathlib.Core.Path.{_≡_, refl, sym, ap, ap₂, _∙_, subst, subst₂}
 use mathlib.Core.Bool.{Bool, true, false, _&&_}
 use mathlib.Core.List.{List}
 use native.Mathlib.Omega.{arith}
 use lib.ListN.{length}
 use Rattle.chains.specs.Chain.{Chain, _⊕_, empty, only}
+use Rattle.chains.specs.Sum.{sum-empty}
 use Rattle.columns.specs.Column.{xorBytes}
-use Rattle.columns.specs.ColumnLaws.{differ-false, length-xor}
+use Rattle.columns.specs.ColumnLaws.{length-xor}
 use Rattle.columns.specs.Slot.{roomOf, chainR, chainV, slot, occupiedAt}
 use Rattle.columns.specs.SlotLaws.{length-slot, chainR-xor, chainV-xor}
 use Rattle.columns.specs.Reduce.{heldAt, pick, redRow, redBytes, Settles, slotRows, slotColumns, occupiedOnly, red, gather, Ends}
 use Rattle.columns.specs.ReduceLaws.{length-row, row-add, row-not-held, row-vacant, unstuck-occupied, stuck-held, stuck-vacant, by-rows, by-settling}
 use Rattle.columns.specs.declared.Highest.{Highest}
-
-sum-empty : (c : Chain) → c ⊕ empty ≡ c
-sum-empty c = fun-ext (λ i. differ-false (c i))
 
 -- one half of the pair, over which sums are sums of chains, follows a row on chains
 row-chain : (half : List ℕ → Chain) (h : ℕ) (work : List ℕ) (r : ℕ) (cur : List ℕ)

@@ -1,4 +1,5 @@
--- What each outcome of the code's tests comes to in the definitions.
+-- What each outcome of the code's tests comes to in the definitions. An edit is right since the code's list holds the
+-- definition's simplices, and the marks since a set read off a moved list is the moved set read off the list.
 use Prim.Native.Nat.{ℕ, zero, suc, pred, _-_, _≤_, _<_}
 use mathlib.Core.Path.{_≡_, refl, sym, _∙_, ap, subst}
 use mathlib.Core.Bool.{Bool, true, false}
@@ -21,7 +22,7 @@ use Rattle.complexes.specs.declared.Complex.{Complex}
 use Rattle.edits.specs.Meaning.{numbered, ListEdited, ComplexEdited}
 use Rattle.edits.specs.declared.ListEdit.{ListEdit}
 
--- ONE LIST.
+-- ONE LIST. `count` is its length, and `test` says whether the simplex stands at the seen position.
 module _ (seen new : ℕ) (s : format.Simplex) (list : SimplexList) (count : ℕ) (counts : count ≡ length (simplicesOf list)) where
   pub nothing-there : count ≤ seen → ListEdited seen new s list (record { number = 10; list = list })
   nothing-there h = record { reading = λ at. list-past at seen new s (simplicesOf list) (omega arith) }
@@ -78,6 +79,7 @@ numbered-else zero at a h = absurd (h refl)
 numbered-else (suc n) at a h = refl
 
 module _ {p : List ℕ} {X : Complex} {kind seen new : ℕ} {s : format.Simplex} {list : SimplexList} (parts : Parts p X kind seen new s list) (edit : ListEdit) (done : ListEdited seen new s list edit) where
+  -- the code's edit of one list, put into the complex, is the definition's edit
   one-reading : (at : ℕ) → edited at p (complexOf X) ≡ numbered (edit .number) at (simplicesOf (edit .list)) andThen λ l. accepted (withList kind l (complexOf X))
   one-reading at =
       edited-one at p (complexOf X) ∙

@@ -80,6 +80,7 @@ module _ (p : List ℕ) where
   pub fits-length : 2 ≤ listKindOf p → listKindOf p ≤ 4 → editFits p ≡ eqb (length p) (6 + listKindOf p)
   fits-length least most = rw (le-leb 2 (listKindOf p) least, le-leb (listKindOf p) 4 most)
 
+-- what is known of a payload that has the shape
 pub record FitsEdit (p : List ℕ) : Type 0 where
   pub least : 2 ≤ listKindOf p
   pub most : listKindOf p ≤ 4
@@ -109,6 +110,7 @@ module _ (kind : ℕ) (l : List Simplex) (X : Complex) where
   unfolding withList
   with-tetrahedra e = rw e
 
+-- the list of the edited kind is the new one
 pub replaced-list : (kind : ℕ) (l : List Simplex) (X : Complex) → 2 ≤ kind → kind ≤ 4 → simplices (withList kind l X) (pred kind) ≡ l
 unfolding simplices withList
 replaced-list kind l X least most = go kind least most
@@ -121,6 +123,7 @@ replaced-list kind l X least most = go kind least most
     go (suc (suc (suc (suc zero)))) a b = refl
     go (suc (suc (suc (suc (suc k))))) a b = absurd (omega arith)
 
+-- the simplices of every other dimension stay as they are
 pub kept-list : (kind dim : ℕ) (l : List Simplex) (X : Complex) → (pred kind ≡ dim → ⊥) → simplices (withList kind l X) dim ≡ simplices X dim
 unfolding simplices withList
 kept-list kind dim l X other = go dim other
@@ -132,7 +135,7 @@ kept-list kind dim l X other = go dim other
     go (suc (suc (suc zero))) n = rw (ne-eqb kind 4 (λ e. n (ap pred e)))
     go (suc (suc (suc (suc k)))) n = refl
 
--- EDIT BY EDIT.
+-- EDIT BY EDIT. At the end of the file nothing is left to do; before it, the outcome is that of the next record's tests.
 pub edits-ended : (left : ℕ) (b : List ℕ) (at : ℕ) (X : Complex) → length b ≤ at → readEdits left b at X ≡ accepted X
 unfolding readEdits
 edits-ended zero b at X h = rw (le-leb (length b) at h)

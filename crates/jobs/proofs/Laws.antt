@@ -1,5 +1,6 @@
 -- What each stage's verdict comes to: a refusal is the whole reading's, and otherwise the rest of the definition follows.
-use Prim.Native.Nat.{ℕ, suc, _+_, _≤_, _<_}
+use Prim.Native.Nat.{ℕ, suc, _+_, _-_, _≤_, _<_}
+use native.Mathlib.Numerals.{sub-one}
 use mathlib.Core.Path.{_≡_, refl, sym, _∙_, ap, subst}
 use mathlib.Core.Bool.{Bool, true, false, not}
 use mathlib.Core.Logic.{_⊎_, inl, inr}
@@ -15,19 +16,25 @@ use Rattle.format.specs.Reading.{Reading, accepted, refused, _andThen_, Listing
 use Rattle.format.specs.Reading as reader
 use Rattle.format.specs.Opened.{opened, record-opened, opened-inside, payload-long}
 use Rattle.format.specs.Sound.{SoundList, SoundComplex}
-use Rattle.format.specs.Accepted.{list-sound, edits-vertices}
+use Rattle.format.specs.Accepted.{head-sound, list-sound, edits-vertices}
 use Rattle.format.specs.Marks.{Once, simplices-once}
 use Rattle.lists.specs.Meaning.{simplicesOf}
 use Rattle.lists.specs.Verdicts.{readingOf, reading-then, told}
 use Rattle.lists.specs.declared.Verdict.{Verdict}
 use Rattle.lists.specs.declared.Verdict.the-variants.{Fine, Refused}
 use Rattle.heads.specs.declared.Head.{Head}
-use Rattle.heads.specs.Meaning.{headOf}
+use Rattle.heads.specs.declared.HeadRead.{HeadRead}
+use Rattle.heads.specs.declared.HeadRead.the-variants.{Sound}
+use Rattle.heads.specs.Meaning.{headOf, headReading, HeadKnown}
 use Rattle.stages.specs.Meaning.{listRead}
 use Rattle.stages.specs.declared.ListRead.{ListRead}
 use Rattle.complexes.specs.Meaning.{jobOf, complexOf, listOf, Marked}
 use Rattle.complexes.specs.declared.Complex.{Complex}
 use Rattle.complexes.specs.declared.Job.{Job}
+use Rattle.chain_stage.specs.Meaning.{ChainStageRead}
+use Rattle.chain_stage.specs.declared.ChainStage.{ChainStage}
+use Rattle.edits.specs.Meaning.{EditsTaken}
+use Rattle.edits.specs.declared.EditsRead.{EditsRead}
 use Rattle.jobs.specs.Meaning.{Outcome, SoundHead, ListSound, afterEdges, afterTriangles}
 use Rattle.jobs.specs.declared.JobRead.{JobRead}
 
@@ -116,3 +123,52 @@ module _ (b : List ℕ) where
       pub head-fine : size ≡ 4 → (h : reader.Head) → readHead small (payloadAt b 0 size) ≡ accepted h → reading small b ≡ afterHead small b 10 h
       unfolding reading
       head-fine n h e = rw (le-ltb 6690 (length b) fits, record-opened headFits b 0 headKind, whole, long, eq-eqb size 4 n, e, n)
+
+-- THE DIMENSION OF A.
+pub dimension-none : (q d : ℕ) → q ≡ 1 → d ≡ 0 → 0 ≡ chainDimension (questionOf q) d
+dimension-none q d e z = rw (eq-eqb q 1 e, z)
+
+pub dimension-filling : (q d : ℕ) → q ≡ 1 → d - 1 ≡ chainDimension (questionOf q) d
+dimension-filling q d e = rw (eq-eqb q 1 e) (sub-one d)
+
+pub dimension-class : (q d : ℕ) → (q ≡ 1 → ⊥) → d ≡ chainDimension (questionOf q) d
+dimension-class q d n = rw (ne-eqb q 1 n)
+
+-- THE LAST STAGES: what is asked about, and then the edits.
+pub chain-told : (b : List ℕ) (at dim : ℕ) (X : Complex) (r : ChainStage) (n p : ℕ) (h : reader.Head) → dim ≡ chainDimension (h .question) (h .d) → ChainStageRead b at dim X r → r .verdict ≡ Refused n p → afterLists small b h at (complexOf X) ≡ refused n p
+chain-told b at dim X r n p h e read v =
+    chain-refused b at h (complexOf X) n p
+    (ap (λ k. readChain small b at k (complexOf X)) (sym e) ∙ read .reading ∙ ap (λ x. readingOf x (record { chain = read .set; next = r .next })) v)
+
+pub edits-told : (b : List ℕ) (at dim : ℕ) (X : Complex) (r : ChainStage) (head : Head) (done : EditsRead) → dim ≡ chainDimension (questionOf (head .question)) (head .d) → SoundHead head → head .v ≡ X .v → SoundComplex small (complexOf X) → ChainStageRead b at dim X r → r .verdict ≡ Fine → EditsTaken b (r .next) dim X (r .marks) done
+    → Outcome (afterLists small b (headOf head) at (complexOf X)) (record { verdict = done .verdict; job = record { head = head; complex = done .complex; marks = done .marks } })
+edits-told b at dim X r head done e known v sound read fine taken =
+    record {
+      set = read .set;
+      is = edits-read b at (headOf head) (complexOf X) (record { chain = read .set; next = r .next }) (done .verdict) (complexOf (done .complex))
+          (ap (λ k. readChain small b at k (complexOf X)) (sym e) ∙ read .reading ∙ ap (λ x. readingOf x (record { chain = read .set; next = r .next })) fine)
+          (taken .reading);
+      marks = λ f. subst (λ k. Marked (done .marks .on) (listOf (done .complex) k) (read .set)) e
+          (taken .stay f (read .set) (read .marks fine (simplices-once small (complexOf X) sound dim)));
+      head = λ f. known;
+      v = λ f. v ∙ edits-vertices 64 b (r .next) (complexOf X) (complexOf (done .complex)) (taken .reading ∙ ap (λ x. readingOf x (complexOf (done .complex))) f);
+    }
+
+-- three sound lists make a sound complex
+pub complex-sound : (v : ℕ) (edges triangles tetrahedra : List Simplex) → v ≤ 256 → ListSound 2 v [] edges → ListSound 3 v edges triangles → ListSound 4 v triangles tetrahedra → SoundComplex small (record { v = v; edges = edges; triangles = triangles; tetrahedra = tetrahedra })
+complex-sound v edges triangles tetrahedra few e t s =
+    record {
+      vertices = few;
+      edges = e .sound;
+      triangles = t .sound;
+      tetrahedra = s .sound;
+      few-edges = e .few;
+      few-triangles = t .few;
+      few-tetrahedra = s .few;
+    }
+
+-- a head that was read is sound
+pub head-known : (p : List ℕ) (r : HeadRead) (h : Head) → HeadKnown p r → r ≡ Sound h → SoundHead h
+head-known p r h known e =
+    let read = head-sound small p (headOf h) (told headReading r (Sound h) _ (known .reading) e) in
+    record { asks = known .asks h e; dimension = read .0; vertices = read .1 }

@@ -210,7 +210,7 @@ impl Marks {
 }
 
 // The smaller of two numbers.
-fn least(a: usize, b: usize) -> usize
+pub fn least(a: usize, b: usize) -> usize
     ensures { λ r. ⌜ r ≡ min a b ⌝ }
 {
     if a < b { a } else { b }

@@ -1,0 +1,59 @@
+// Slots in the lent work memory as the reduction of a matrix: what putting a column in, filling a
+// chain and finding the smallest of a class come to, said of chains (specs/Slots.antt).
+ghost use mathlib.Core.Path.{_≡_};
+ghost use Prim.Native.Nat.{_*_, _≤_};
+ghost use lib.ListN.{length};
+ghost use Rattle.columns.specs.Slot.{roomOf};
+ghost use Rattle.slots.specs.Slots.{Starts, PutsIn, FillsIn, ClassesIn};
+use columns::Highest;
+use columns::clear;
+use columns::insert;
+use columns::reduce;
+use columns::settle;
+
+// Makes every slot vacant.
+pub fn start(work: &mut [u8], h: usize)
+    ensures { λ _. ⌜ Starts h (now (work .exit)) ⌝ }
+{
+    clear(work);
+}
+
+// Puts the next column into the slots: the pair in hand is its boundary, and its rank alone.
+pub fn insert_column(work: &mut [u8], cur: &mut [u8], h: usize, rows: usize)
+    requires { ⌜ rows ≤ 8 * h ⌝ }
+    requires { ⌜ roomOf h ≤ length (now work) ⌝ }
+    requires { ⌜ length (now cur) ≡ 2 * h ⌝ }
+    ensures { λ _. ⌜ PutsIn h rows (now (work .entry)) (now (cur .entry)) (now (work .exit)) ⌝ }
+{
+    insert(work, cur, h, rows);
+}
+
+// Whether a chain has a filling.
+pub enum Filled {
+    Found,
+    None,
+}
+
+// Fills the chain in hand: where it answers `Found`, the pair in hand then holds the smallest filling.
+pub fn fill_in(cur: &mut [u8], work: &[u8], h: usize, rows: usize) -> Filled
+    requires { ⌜ rows ≤ 8 * h ⌝ }
+    requires { ⌜ roomOf h ≤ length (now work) ⌝ }
+    requires { ⌜ length (now cur) ≡ 2 * h ⌝ }
+    ensures { λ r. ⌜ FillsIn h rows (now (work .entry)) (now (cur .entry)) r (now (cur .exit)) ⌝ }
+{
+    let found = settle(cur, work, h, rows);
+    match found {
+        Highest::At(_) => Filled::None,
+        Highest::Nothing => Filled::Found,
+    }
+}
+
+// Makes the chain in hand the smallest of its class.
+pub fn class_in(cur: &mut [u8], work: &[u8], h: usize, rows: usize)
+    requires { ⌜ rows ≤ 8 * h ⌝ }
+    requires { ⌜ roomOf h ≤ length (now work) ⌝ }
+    requires { ⌜ length (now cur) ≡ 2 * h ⌝ }
+    ensures { λ _. ⌜ ClassesIn h rows (now (work .entry)) (now (cur .entry)) (now (cur .exit)) ⌝ }
+{
+    reduce(cur, work, h, rows);
+}

@@ -1,0 +1,8 @@
+-- Lemmas of the proofs of this crate, one file for each loop.
+pub mod Whole
+pub mod Adding
+pub mod Numbering
+pub mod Loading
+pub mod Marking
+pub mod Rimming
+pub mod Solving
