@@ -1,2 +1,3 @@
 -- What reading a job comes to, stage by stage.
 pub mod Meaning
+pub mod Known

@@ -10,7 +10,7 @@ use Rattle.format.specs.Simplex.{Simplex, SimplexSet}
 use Rattle.format.specs.Reading.{Reading, _andThen_, readList, afterLists, dimensionFits, questionOf}
 use Rattle.format.specs.Reading as format
 use Rattle.format.specs.Answer.{rows}
-use Rattle.format.specs.Sound.{SoundList, SoundComplex}
+use Rattle.format.specs.Sound.{SoundList, SoundJob}
 use Rattle.lists.specs.Meaning.{simplicesOf}
 use Rattle.lists.specs.Verdicts.{readingOf}
 use Rattle.lists.specs.declared.Verdict.the-variants.{Fine}
@@ -18,7 +18,7 @@ use Rattle.lists.specs.declared.SimplexList.{SimplexList}
 use Rattle.heads.specs.declared.Head.{Head}
 use Rattle.heads.specs.Meaning.{headOf}
 use Rattle.complexes.specs.Meaning.{jobOf, complexOf, Marked}
-use Rattle.complexes.specs.declared.Complex.{Complex}
+use Rattle.complexes.specs.declared.Job.{Job}
 use Rattle.jobs.specs.declared.JobRead.{JobRead}
 
 -- A head that was accepted: one of the two questions, in its range, with few enough vertices.
@@ -52,3 +52,11 @@ abbrev pub afterTriangles : List ℕ → format.Head → (at : ℕ) (edges trian
 afterTriangles b h at edges triangles =
     readList small b at tetrahedraKind (h .v) triangles andThen λ s.
     afterLists small b h (s .next) (record { v = h .v; edges = edges; triangles = triangles; tetrahedra = s .list })
+
+-- A job of the code that means a sound job: A is the set that its marks hold.
+pub record Readable (j : Job) : Type 0 where
+  pub set : SimplexSet
+  pub sound : SoundJob small (jobOf j set)
+  pub head : SoundHead (j .head)
+  pub v : j .head .v ≡ j .complex .v
+  pub marks : Marked (j .marks .on) (rows (jobOf j set)) set
