@@ -1,19 +1,20 @@
 -- The members of a chain, written one behind the other: a run whose pieces are the members' bytes.
-use Prim.Native.Nat.{ℕ, zero, suc, _+_, _%_, _/_, _≤_, _<_}
+use Prim.Native.Nat.{ℕ, zero, suc, _+_, _-_, _%_, _/_, _≤_, _<_}
 use mathlib.Core.Path.{_≡_, refl, sym, _∙_, ap, ap₂, subst}
 use mathlib.Core.Bool.{Bool, true, false, cond}
 use mathlib.Core.List.{List, [], _∷_, _++_, append-nil, append-assoc}
 use native.Mathlib.Omega.{arith}
 use native.Mathlib.Nat.{add-zero, zero-add, mod-eq-of-lt}
 use native.Mathlib.Numerals.{add-one}
-use lib.ListN.{length, getD, take, drop, length-append, length-take, length-map, take-append-drop}
+use lib.ListN.{length, getD, set, take, drop, length-append, length-take, length-map, take-append-drop}
 use lib.Seq.{take-suc, take-all}
 use Rattle.chains.specs.Chain.{Chain}
 use Rattle.format.specs.Simplex.{Simplex}
 use Rattle.format.specs.Answer.{members, membersFrom, refusalRecord, u16Bytes, u32Bytes, recordOf}
-use Rattle.writer.specs.Splice.{splice, splice-nothing, splice-more}
+use Rattle.writer.specs.Splice.{splice, splice-nothing, splice-more, splice-byte}
 use Rattle.writer.specs.Meaning.{simplexBytes, listBytes, vertexByte, headerOfSize, Put}
 use Rattle.writer.proofs.Runs.{Run, run-starts, run-goes-on, run-ends, listBytes-append}
+use Rattle.writer.proofs.Records.{splice-before, record-put, put-long}
 use Rattle.answers.specs.Meaning.{memberBytes, memberPiece}
 
 members-append : (k : ℕ) (c : Chain) (a b : List Simplex) → membersFrom k c (a ++ b) ≡ membersFrom k c a ++ membersFrom (k + length a) c b
@@ -95,3 +96,12 @@ refusal-put l w x y z number place room a b c d =
       lent = d ∙ ap (λ q. splice q 10 (u16Bytes (place / 65536))) two ∙ splice-more l 0 10 (headerOfSize 17 6 ++ u16Bytes number ++ u16Bytes (place % 65536)) (u16Bytes (place / 65536)) refl (omega arith);
       next = refl;
     }
+
+-- A CHAIN'S RECORD: the members, the byte in front of them, and the header.
+pub chain-put : (l x y z : List ℕ) (d : ℕ) (bytes : List ℕ) (next : ℕ) → 7 + length bytes ≤ length l → Put l 7 bytes x next → y ≡ set x 6 d → z ≡ splice y 0 (headerOfSize 16 (next - 6)) → Put l 0 (recordOf 16 (d ∷ bytes)) z next
+chain-put l x y z d bytes next room put one is =
+    let long : length x ≡ length l = put-long room put in
+    let byte : set x 6 d ≡ splice l 6 (d ∷ bytes) =
+        ap (λ w. set w 6 d) (sym (splice-nothing x 6)) ∙ splice-byte x 6 6 [] d refl (omega arith) ∙
+        ap (λ w. splice w 6 (d ∷ [])) (put .lent) ∙ splice-before l 6 7 (d ∷ []) bytes refl room in
+    record-put l 0 16 (d ∷ bytes) (set x 6 d) z next (omega arith) (record { lent = byte; next = omega (arith, put .next) }) (is ∙ ap (λ w. splice w 0 (headerOfSize 16 (next - 6))) one)

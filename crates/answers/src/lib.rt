@@ -2,13 +2,13 @@
 use lists::Simplex;
 use lists::SimplexList;
 ghost use mathlib.Core.Path.{_≡_};
-ghost use Prim.Native.Nat.{_+_, _≤_};
-ghost use lib.ListN.{length};
+ghost use Prim.Native.Nat.{_+_, _≤_, _<_};
+ghost use lib.ListN.{length, set};
 ghost use Rattle.format.specs.Answer.{refusalRecord};
 ghost use Rattle.lists.specs.Meaning.{verticesOf, simplicesOf};
 ghost use Rattle.columns.specs.Column.{chainOf};
 ghost use Rattle.writer.specs.Meaning.{Put, simplexBytes};
-ghost use Rattle.answers.specs.Meaning.{memberBytes, memberPiece};
+ghost use Rattle.answers.specs.Meaning.{memberBytes, memberPiece, chainBytes};
 
 // A refusal's record, twelve bytes: the number in two, the place in four.
 pub fn put_refusal(out: &mut [u8], number: u16, place: usize) -> usize
@@ -47,5 +47,24 @@ pub fn put_members(out: &mut [u8], at: usize, list: SimplexList, col: &[u8]) -> 
         next = put_member(out, next, list.items[i], columns::test(col, i));
         i += 1;
     }
+    next
+}
+
+// One byte.
+fn put_byte(out: &mut [u8], at: usize, b: u8)
+    requires { ⌜ at < length (now out) ⌝ }
+    ensures { λ _. ⌜ now (out .exit) ≡ set (now (out .entry)) at b ⌝ }
+{
+    out[at] = b;
+}
+
+// A chain's record: d, and then the members, behind a header that says how long they are.
+pub fn put_chain(out: &mut [u8], d: u8, list: SimplexList, col: &[u8]) -> usize
+    requires { ⌜ 7 + length (memberBytes (chainOf (now col)) (simplicesOf list)) ≤ length (now out) ⌝ }
+    ensures { λ r. ⌜ Put (now (out .entry)) 0 (chainBytes d (chainOf (now (col .entry))) (simplicesOf list)) (now (out .exit)) r ⌝ }
+{
+    let next = put_members(out, 7, list, col);
+    put_byte(out, 6, d);
+    writer::put_header(out, 0, 16, next - 6);
     next
 }

@@ -32,3 +32,5 @@ pub mod RoundTrip
 pub mod Marks
 -- where refusals point
 pub mod Places
+-- what is known of an answer's members
+pub mod Members

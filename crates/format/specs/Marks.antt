@@ -53,7 +53,7 @@ abbrev pub Once : List Simplex → Type 0
 Once l = (s : Simplex) → copies s l ≤ 1
 
 -- what is listed among the vertices is a vertex below v
-vertex-below : (v : ℕ) (s : Simplex) → 1 ≤ copies s (vertexList v) → (a : ℕ) × (a < v) × (s ≡ a ∷ [])
+pub vertex-below : (v : ℕ) (s : Simplex) → 1 ≤ copies s (vertexList v) → (a : ℕ) × (a < v) × (s ≡ a ∷ [])
 unfolding vertexList copies
 vertex-below zero s h = absurd (omega arith)
 vertex-below (suc v) s h = go (same s (v ∷ [])) refl (vertex-below v s)

@@ -15,7 +15,7 @@ use Rattle.writer.specs.Meaning.{headerOfSize, Put}
 use Rattle.writer.proofs.Runs.{places-append}
 
 -- what is put in front of bytes that were put behind its place
-splice-before : (l : List ℕ) (at start : ℕ) (front back : List ℕ) → start ≡ at + length front → start + length back ≤ length l → splice (splice l start back) at front ≡ splice l at (front ++ back)
+pub splice-before : (l : List ℕ) (at start : ℕ) (front back : List ℕ) → start ≡ at + length front → start + length back ≤ length l → splice (splice l start back) at front ≡ splice l at (front ++ back)
 splice-before l at start front back e h =
     let before : length (take start l) ≡ start = omega (arith, length-take start l) in
     let total : start + length back ≡ at + length (front ++ back) = omega (arith, length-append front back) in

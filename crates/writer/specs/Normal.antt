@@ -31,7 +31,7 @@ own-bytes v (a ∷ s) few below =
     let small : a < 256 = omega (arith, ltb-true a v (both .0)) in
     ap₂ _∷_ (mod-eq-of-lt small) (own-bytes v s few (both .1))
 
-list-bytes : (v : ℕ) (l : List Simplex) → v ≤ 256 → ((s : Simplex) → listed s l ≡ true → soundSimplex v s ≡ true) → listBytes l ≡ verticesOf l
+pub list-bytes : (v : ℕ) (l : List Simplex) → v ≤ 256 → ((s : Simplex) → listed s l ≡ true → soundSimplex v s ≡ true) → listBytes l ≡ verticesOf l
 unfolding listBytes verticesOf listed soundSimplex
 list-bytes v [] few sound = refl
 list-bytes v (s ∷ l) few sound =
