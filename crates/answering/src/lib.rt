@@ -6,7 +6,6 @@ use lists::Marks;
 use lists::SimplexList;
 use lists::Verdict;
 use solver::Solved;
-
 ghost use mathlib.Core.Path.{_≡_};
 ghost use Prim.Native.Nat.{_≤_};
 ghost use lib.ListN.{length};
@@ -43,7 +42,14 @@ fn lower_of(complex: Complex, dim: usize) -> SimplexList
 }
 
 // Fills the marked chain of dimension `dim`: the patch, or refusal 12 or 13.
-fn answer_fill(out: &mut [u8], work: &mut [u8], complex: Complex, marks: Marks, dim: usize, d: u8) -> usize
+fn answer_fill(
+    out: &mut [u8],
+    work: &mut [u8],
+    complex: Complex,
+    marks: Marks,
+    dim: usize,
+    d: u8,
+) -> usize
     requires { ⌜ SoundComplex small (complexOf complex) ⌝ }
     requires { ⌜ dim ≤ 2 ⌝ }
     requires { ⌜ 2055 ≤ length (now out) ⌝ }
@@ -66,7 +72,14 @@ fn answer_fill(out: &mut [u8], work: &mut [u8], complex: Complex, marks: Marks, 
 }
 
 // The smallest chain in the class of the marked one.
-fn answer_class(out: &mut [u8], work: &mut [u8], complex: Complex, marks: Marks, dim: usize, d: u8) -> usize
+fn answer_class(
+    out: &mut [u8],
+    work: &mut [u8],
+    complex: Complex,
+    marks: Marks,
+    dim: usize,
+    d: u8,
+) -> usize
     requires { ⌜ SoundComplex small (complexOf complex) ⌝ }
     requires { ⌜ dim ≤ 2 ⌝ }
     requires { ⌜ 2055 ≤ length (now out) ⌝ }
@@ -77,8 +90,9 @@ fn answer_class(out: &mut [u8], work: &mut [u8], complex: Complex, marks: Marks,
     let cols = list_of(complex, dim + 1);
     let mut cur = [0u8; 128];
     solver::class(work, &mut cur, rows, cols, marks, 64);
+    let start = 0;
     let half = 64;
-    answers::put_chain(out, d, rows, &cur[..half])
+    answers::put_chain(out, d, rows, &cur[start..half])
 }
 
 // Answers a job: its question is a filling, or else a class.

@@ -102,6 +102,6 @@ pub chain-put : (l x y z : List ℕ) (d : ℕ) (bytes : List ℕ) (next : ℕ) �
 chain-put l x y z d bytes next room put one is =
     let long : length x ≡ length l = put-long room put in
     let byte : set x 6 d ≡ splice l 6 (d ∷ bytes) =
-        ap (λ w. set w 6 d) (sym (splice-nothing x 6)) ∙ splice-byte x 6 6 [] d refl (omega arith) ∙
-        ap (λ w. splice w 6 (d ∷ [])) (put .lent) ∙ splice-before l 6 7 (d ∷ []) bytes refl room in
+    ap (λ w. set w 6 d) (sym (splice-nothing x 6)) ∙ splice-byte x 6 6 [] d refl (omega arith) ∙
+    ap (λ w. splice w 6 (d ∷ [])) (put .lent) ∙ splice-before l 6 7 (d ∷ []) bytes refl room in
     record-put l 0 16 (d ∷ bytes) (set x 6 d) z next (omega arith) (record { lent = byte; next = omega (arith, put .next) }) (is ∙ ap (λ w. splice w 0 (headerOfSize 16 (next - 6))) one)

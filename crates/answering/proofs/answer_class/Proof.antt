@@ -1,55 +1,61 @@
+-- `answering::answer_class` meets its contract: what the solver found is the answer, and its record is put out.
+use Prim.Native.Nat.{_+_, _≤_}
+use native.Mathlib.Omega.{arith}
+use native.Mathlib.Nat.{le-trans}
+use mathlib.Core.Path.{refl, sym, ap, subst}
+use lib.ListN.{length}
+use Rattle.columns.specs.Slot.{halfR}
+use Rattle.complexes.specs.Meaning.{complexOf}
+use Rattle.solver.specs.Room.{room-small}
+use Rattle.answering.proofs.Lists.{few-simplices, members-room}
+use Rattle.answering.proofs.Told.{answers-class}
 use borrow.Author.Needs.{needs}
 use Rattle.answering.proofs.answer_class.Statement.{statement}
 use Rattle.answering.proofs.answer_class.Tie as tie
-use Rattle.answering.proofs.answer_class.Reads as reads
-use Rattle.answering.proofs.answer_class.Lts as lts
-use Rattle.answering.proofs.list_of.Reads as list-of-reads
-use Rattle.answers.proofs.put_chain.Reads as put-chain-reads
-use Rattle.solver.proofs.class.Reads as class-reads
 
--- src/lib.rt:76:9
 list-of-requires : tie.Need-list-of-requires
 list-of-requires c κs = search needs
 
--- src/lib.rt:77:33
 add-list-of : tie.Need-add-list-of
 add-list-of c = search needs
 
--- src/lib.rt:77:9
 list-of-requires-2 : tie.Need-list-of-requires-2
 list-of-requires-2 c κs = search needs
 
--- src/lib.rt:79:25
 slice-aggregate-class : tie.Need-slice-aggregate-class
 slice-aggregate-class c = search needs
 
--- src/lib.rt:79:5
 class-requires : tie.Need-class-requires
-class-requires c κs = search needs
+class-requires c κs =
+    let a = c .before .before .before .before .before .before .args in
+    let X = complexOf (a .complex) in
+    let sound = c .before .before .before .before .before .before .pre .0 in
+    (subst (λ m. m ≤ 512) (ap length (sym (c .before .before .before .list-of .ensures))) (few-simplices X sound (a .dim)), (subst (λ m. m ≤ 512) (ap length (sym (c .before .before .list-of2 .ensures))) (few-simplices X sound (a .dim + 1)), (omega (arith, room-small), refl)))
 
--- src/lib.rt:81:38
-array-share-prefix-cur : tie.Need-array-share-prefix-cur
-array-share-prefix-cur c = search needs
+sub-put-chain : tie.Need-sub-put-chain
+sub-put-chain c = search needs
 
--- src/lib.rt:81:38
-slice-aggregate-put-chain : tie.Need-slice-aggregate-put-chain
-slice-aggregate-put-chain c = search needs
+part-put-chain-start : tie.Need-part-put-chain-start
+part-put-chain-start c = search needs
 
--- src/lib.rt:81:5
+part-put-chain-end : tie.Need-part-put-chain-end
+part-put-chain-end c = search needs
+
 put-chain-requires : tie.Need-put-chain-requires
-put-chain-requires c κs = search needs
+put-chain-requires c κs =
+    let a = c .before .before .before .before .before .before .before .before .before .before .before .before .before .args in
+    le-trans (members-room (complexOf (a .complex)) (c .before .before .before .before .before .before .before .before .before .before .before .before .before .pre .0) (a .dim) _ (c .before .before .before .before .before .before .before .before .before .before .list-of .ensures) _) (c .before .before .before .before .before .before .before .before .before .before .before .before .before .pre .1 .1 .0)
 
--- src/lib.rt:69:1
 same-length : tie.Need-same-length
 same-length c = search needs
 
--- src/lib.rt:69:1
 same-length-2 : tie.Need-same-length-2
 same-length-2 c = search needs
 
--- src/lib.rt:69:1
 returns : tie.Need-returns
-returns c = search needs
+unfolding halfR
+returns c j q s =
+    answers-class s (c .before .before .before .before .before .before .before .before .before .before .before .before .before .list-of .ensures) (c .before .before .before .before .before .before .before .before .before .before .before .before .list-of2 .ensures) _ (c .before .before .before .before .before .before .before .before .before .before .before .before .before .before .before .before .pre .0) q (c .before .before .before .before .before .before .before .before .before .class .ensures) (c .before .before .put-chain .ensures)
 
 pub answer-class-spec : {M : Type 1} → statement M
 answer-class-spec =
@@ -60,8 +66,9 @@ answer-class-spec =
     list-of-requires-2
     slice-aggregate-class
     class-requires
-    array-share-prefix-cur
-    slice-aggregate-put-chain
+    sub-put-chain
+    part-put-chain-start
+    part-put-chain-end
     put-chain-requires
     same-length
     same-length-2

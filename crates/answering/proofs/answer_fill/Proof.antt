@@ -1,109 +1,101 @@
+-- `answering::answer_fill` meets its contract: what the solver told is the answer, and its record is put out.
+use Prim.Native.Nat.{_+_, _≤_}
+use native.Mathlib.Omega.{arith}
+use mathlib.Core.Path.{refl, sym, ap, subst}
+use lib.ListN.{length}
+use native.Mathlib.Nat.{le-trans}
+use Rattle.chains.specs.Chain.{empty}
+use Rattle.columns.specs.Slot.{halfV}
+use Rattle.complexes.specs.Meaning.{complexOf}
+use Rattle.solver.specs.Room.{room-small}
+use Rattle.solver.specs.Solved.{fill-says}
+use Rattle.answering.proofs.Lists.{few-simplices, few-lower, members-room}
+use Rattle.answering.proofs.Told.{answers-open, answers-unfilled, answers-patch}
 use borrow.Author.Needs.{needs}
 use Rattle.answering.proofs.answer_fill.Statement.{statement}
 use Rattle.answering.proofs.answer_fill.Tie as tie
-use Rattle.answering.proofs.answer_fill.Reads as reads
-use Rattle.answering.proofs.answer_fill.Lts as lts
-use Rattle.answering.proofs.list_of.Reads as list-of-reads
-use Rattle.answering.proofs.lower_of.Reads as lower-of-reads
-use Rattle.answers.proofs.put_chain.Reads as put-chain-reads
-use Rattle.answers.proofs.put_refusal.Reads as put-refusal-reads
-use Rattle.solver.proofs.fill.Reads as fill-reads
 
--- src/lib.rt:53:9
 lower-of-requires : tie.Need-lower-of-requires
 lower-of-requires c κs = search needs
 
--- src/lib.rt:54:9
 list-of-requires : tie.Need-list-of-requires
 list-of-requires c κs = search needs
 
--- src/lib.rt:55:33
 add-list-of : tie.Need-add-list-of
 add-list-of c = search needs
 
--- src/lib.rt:55:9
 list-of-requires-2 : tie.Need-list-of-requires-2
 list-of-requires-2 c κs = search needs
 
--- src/lib.rt:57:37
 slice-aggregate-fill : tie.Need-slice-aggregate-fill
 slice-aggregate-fill c = search needs
 
--- src/lib.rt:57:9
 fill-requires : tie.Need-fill-requires
-fill-requires c κs = search needs
+fill-requires c κs =
+    let a = c .before .before .before .before .before .before .before .args in
+    let X = complexOf (a .complex) in
+    let sound = c .before .before .before .before .before .before .before .pre .0 in
+    (subst (λ m. m ≤ 512) (ap length (sym (c .before .before .before .before .lower-of .ensures))) (few-lower X sound (a .dim)), (subst (λ m. m ≤ 512) (ap length (sym (c .before .before .before .list-of .ensures))) (few-simplices X sound (a .dim)), (subst (λ m. m ≤ 512) (ap length (sym (c .before .before .list-of2 .ensures))) (few-simplices X sound (a .dim + 1)), (omega (arith, room-small), refl))))
 
--- src/lib.rt:59:49
 enum-told : tie.Need-enum-told
 enum-told c = search needs
 
--- src/lib.rt:59:28
 put-refusal-requires : tie.Need-put-refusal-requires
 put-refusal-requires c κs = search needs
 
--- src/lib.rt:60:51
 enum-told-2 : tie.Need-enum-told-2
 enum-told-2 c = search needs
 
--- src/lib.rt:60:30
 put-refusal-requires-2 : tie.Need-put-refusal-requires-2
 put-refusal-requires-2 c κs = search needs
 
--- src/lib.rt:62:17
 enum-told-3 : tie.Need-enum-told-3
 enum-told-3 c = search needs
 
--- src/lib.rt:63:46
 sub-put-chain : tie.Need-sub-put-chain
 sub-put-chain c = search needs
 
--- src/lib.rt:63:46
 part-put-chain-start : tie.Need-part-put-chain-start
 part-put-chain-start c = search needs
 
--- src/lib.rt:63:46
 part-put-chain-end : tie.Need-part-put-chain-end
 part-put-chain-end c = search needs
 
--- src/lib.rt:63:13
 put-chain-requires : tie.Need-put-chain-requires
-put-chain-requires c κs = search needs
+put-chain-requires c κs =
+    let a = c .before .before .before .before .before .before .before .before .before .before .before .before .before .before .before .before .args in
+    le-trans (members-room (complexOf (a .complex)) (c .before .before .before .before .before .before .before .before .before .before .before .before .before .before .before .before .pre .0) (a .dim + 1) _ (c .before .before .before .before .before .before .before .before .before .before .before .list-of2 .ensures) _) (c .before .before .before .before .before .before .before .before .before .before .before .before .before .before .before .before .pre .1 .1 .0)
 
--- src/lib.rt:46:1
 same-length : tie.Need-same-length
 same-length c = search needs
 
--- src/lib.rt:46:1
 same-length-2 : tie.Need-same-length-2
 same-length-2 c = search needs
 
--- src/lib.rt:46:1
 returns : tie.Need-returns
-returns c = search needs
+returns c j q s =
+    answers-open s (c .before .before .before .before .before .before .before .before .before .before .before .before .before .before .lower-of .ensures) (c .before .before .before .before .before .before .before .before .before .before .before .before .before .list-of .ensures) (c .before .before .before .before .before .before .before .before .before .before .before .before .list-of2 .ensures) empty q (fill-says (c .before .before .before .before .before .before .before .before .before .fill .ensures) (c .before .before .before .before .enum-told .given .1)) (c .before .before .put-refusal .ensures)
 
--- src/lib.rt:46:1
 same-length-3 : tie.Need-same-length-3
 same-length-3 c = search needs
 
--- src/lib.rt:46:1
 same-length-4 : tie.Need-same-length-4
 same-length-4 c = search needs
 
--- src/lib.rt:46:1
 returns-2 : tie.Need-returns-2
-returns-2 c = search needs
+returns-2 c j q s =
+    answers-unfilled s (c .before .before .before .before .before .before .before .before .before .before .before .before .before .before .lower-of .ensures) (c .before .before .before .before .before .before .before .before .before .before .before .before .before .list-of .ensures) (c .before .before .before .before .before .before .before .before .before .before .before .before .list-of2 .ensures) empty q (fill-says (c .before .before .before .before .before .before .before .before .before .fill .ensures) (c .before .before .before .before .enum-told2 .given .1)) (c .before .before .put-refusal2 .ensures)
 
--- src/lib.rt:46:1
 same-length-5 : tie.Need-same-length-5
 same-length-5 c = search needs
 
--- src/lib.rt:46:1
 same-length-6 : tie.Need-same-length-6
 same-length-6 c = search needs
 
--- src/lib.rt:46:1
 returns-3 : tie.Need-returns-3
-returns-3 c = search needs
+unfolding halfV
+returns-3 c j q s =
+    answers-patch s (c .before .before .before .before .before .before .before .before .before .before .before .before .before .before .before .before .lower-of .ensures) (c .before .before .before .before .before .before .before .before .before .before .before .before .before .before .before .list-of .ensures) (c .before .before .before .before .before .before .before .before .before .before .before .before .before .before .list-of2 .ensures) _ (c .before .before .before .before .before .before .before .before .before .before .before .before .before .before .before .before .before .before .before .pre .0) q (fill-says (c .before .before .before .before .before .before .before .before .before .before .before .fill .ensures) (c .before .before .before .before .before .before .enum-told3 .given .1)) (c .before .before .put-chain .ensures)
 
 pub answer-fill-spec : {M : Type 1} → statement M
 answer-fill-spec =

@@ -1,0 +1,3 @@
+-- Laws that this crate's proofs share.
+pub mod Lists
+pub mod Told
