@@ -14,7 +14,7 @@ use Rattle.jobs.specs.declared.JobRead.{JobRead}
 pub read-accepted : (b : List ℕ) (r : JobRead) (o : Outcome (reading small b) r) → r .verdict ≡ Fine → reading small b ≡ accepted (jobOf (r .job) (o .set))
 read-accepted b r o f = o .is ∙ ap (λ v. readingOf v (jobOf (r .job) (o .set))) f
 
-pub read-readable : (b : List ℕ) (r : JobRead) (o : Outcome (reading small b) r) → r .verdict ≡ Fine → Readable (r .job)
+unfoldable pub read-readable : (b : List ℕ) (r : JobRead) (o : Outcome (reading small b) r) → r .verdict ≡ Fine → Readable (r .job)
 read-readable b r o f =
     record {
       set = o .set;

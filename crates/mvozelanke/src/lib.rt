@@ -1,7 +1,7 @@
 // The panel's calls: numbers and byte slices, no demands on the caller. Everything that matters stands below this crate.
 use lists::Verdict;
 ghost use Rattle.format.specs.Numbers.{small};
-ghost use Rattle.format.specs.Promise.{AnswerPromise};
+ghost use Rattle.format.specs.Promise.{AnswerPromise, WritePromise};
 
 // Answers a job: the record goes to the front of `out`, its length is returned, and `work` is all zero afterwards. Where
 // fewer than 2,055 output bytes or 65,536 bytes of work memory are lent, returns 0 and writes nothing.
@@ -32,4 +32,13 @@ pub extern "C" fn mvz_answer(job: &[u8], out: &mut [u8], work: &mut [u8]) -> usi
             count
         }
     }
+}
+
+// Writes a job's normal form: the upper 32 bits are a refusal's number, 0 where it was written, the lower 32 the length
+// written or the refusal's place. A refusal writes nothing.
+#[no_mangle]
+pub extern "C" fn mvz_write(job: &[u8], out: &mut [u8]) -> u64
+    ensures { λ r. ⌜ WritePromise small (now (job .entry)) (now (out .entry)) r (now (out .exit)) ⌝ }
+{
+    writing::write(job, out)
 }

@@ -1,0 +1,2 @@
+-- Laws that the exported calls' proofs share.
+pub mod Laws
