@@ -1,0 +1,119 @@
+/*
+ * Mvozelanke: the smallest patch, and the smallest chain of a class, over Z/2.
+ *
+ * A job is a run of records: an ordered simplicial complex (edges, triangles,
+ * tetrahedra), a question and a chain A.  mvz_answer reads a job and answers it;
+ * mvz_write reads a job and writes it back in its one normal form.
+ *
+ * All numbers in jobs and answers are little-endian.  The buffers lent to one
+ * call must not overlap.  A null pointer is fine where the length is 0.  Neither
+ * call keeps a pointer, allocates memory or changes a byte of the job.
+ */
+#ifndef MVOZELANKE_H
+#define MVOZELANKE_H
+
+#include <stddef.h>
+#include <stdint.h>
+
+#ifdef __cplusplus
+extern "C" {
+#endif
+
+/* The question byte of the head record. */
+enum mvz_question {
+    MVZ_FILL = 1,  /* the smallest d-chain whose boundary is A, d from 1 to 3 */
+    MVZ_CLASS = 2  /* the smallest d-chain that differs from A by a boundary, d from 0 to 2 */
+};
+
+/* Kinds of records.  1 to 7 stand in a job, 16 and 17 are answers. */
+enum mvz_kind {
+    MVZ_KIND_HEAD = 1,
+    MVZ_KIND_EDGES = 2,
+    MVZ_KIND_TRIANGLES = 3,
+    MVZ_KIND_TETRAHEDRA = 4,
+    MVZ_KIND_CHAIN = 5,
+    MVZ_KIND_WALK = 6,
+    MVZ_KIND_EDIT = 7,
+    MVZ_KIND_ANSWER = 16,
+    MVZ_KIND_REFUSAL = 17
+};
+
+/* Refusal numbers.  0 stands for "not refused" and is never in a record. */
+enum mvz_refusal_number {
+    MVZ_NOT_REFUSED = 0,
+    MVZ_TOO_LONG = 1,    /* the job has more than MVZ_JOB_MOST bytes */
+    MVZ_CUT = 2,         /* a record runs past the end of the job */
+    MVZ_BAD_KIND = 3,    /* this kind may not stand here, or the chain is missing */
+    MVZ_BAD_SHAPE = 4,   /* the record's length is not allowed */
+    MVZ_BAD_HEAD = 5,    /* question, d or v is outside its range */
+    MVZ_BAD_VERTEX = 6,  /* a simplex does not rise, or names a vertex not below v */
+    MVZ_TWICE = 7,       /* a simplex stands in its list already */
+    MVZ_NO_FACE = 8,     /* a facet of a simplex is not listed */
+    MVZ_CHAIN_ITEM = 9,  /* a bad position in the chain, or a walk step over no edge */
+    MVZ_STALE = 10,      /* an edit names a simplex that is not at its seen position */
+    MVZ_BAD_TARGET = 11, /* an edit's new position is not below the count */
+    MVZ_RIM_OPEN = 12,   /* fill: the boundary of A is not empty */
+    MVZ_NO_FILLING = 13, /* fill: A is closed, but nothing has A as its boundary */
+    MVZ_NO_ROOM = 14     /* too little memory is lent */
+};
+
+/* Sizes in bytes. */
+#define MVZ_OUT_ROOM 2055    /* mvz_answer wants at least this much output */
+#define MVZ_WORK_ROOM 65536  /* and at least this much work memory */
+#define MVZ_JOB_MOST 6690    /* a longer job is refused */
+#define MVZ_NORMAL_MOST 5666 /* no normal form is longer than this */
+#define MVZ_RECORD_HEADER 6  /* four bytes of length, two bytes of kind */
+#define MVZ_REFUSAL_RECORD 12
+
+/*
+ * Answers a job.
+ *
+ * result   the number of bytes written to out: one record, either a chain
+ *          (kind 16) or a refusal from 1 to 13 (kind 17).  0 when less than
+ *          MVZ_OUT_ROOM output or less than MVZ_WORK_ROOM work memory is lent;
+ *          that is the refusal 14, and it writes nothing anywhere.
+ * out      the first `result` bytes are the record, the rest keep their values.
+ * work     may hold anything before the call.  After it all work_len bytes are
+ *          zero, unless the result is 0: then they keep their values.
+ */
+size_t mvz_answer(const uint8_t *job, size_t job_len,
+                  uint8_t *out, size_t out_len,
+                  uint8_t *work, size_t work_len);
+
+/*
+ * Writes a job in its normal form: kinds 1 to 5 only, the lists as they stand
+ * after the edits, A as positions in them.  Two jobs are the same exactly when
+ * their normal forms are.
+ *
+ * result   take it apart with the functions below.  Written: refusal 0 and the
+ *          length.  Refused: one of 1 to 11 and its place, or, for a sound job,
+ *          14 and place 0 when out_len is less than the normal form's length.
+ * out      written: the first `length` bytes are the job, the rest keep their
+ *          values.  Refused: every byte keeps its value.
+ */
+uint64_t mvz_write(const uint8_t *job, size_t job_len,
+                   uint8_t *out, size_t out_len);
+
+/* The refusal number in a result of mvz_write; MVZ_NOT_REFUSED where it wrote. */
+static inline uint32_t mvz_refusal(uint64_t result)
+{
+    return (uint32_t)(result >> 32);
+}
+
+/* The length written.  It means something only where nothing was refused. */
+static inline uint32_t mvz_length(uint64_t result)
+{
+    return (uint32_t)(result & UINT32_C(0xffffffff));
+}
+
+/* The place of a refusal.  It means something only where something was refused. */
+static inline uint32_t mvz_place(uint64_t result)
+{
+    return (uint32_t)(result & UINT32_C(0xffffffff));
+}
+
+#ifdef __cplusplus
+}
+#endif
+
+#endif
