@@ -28,6 +28,7 @@ pub mod Demands
 pub mod Bytes
 pub mod Normal
 pub mod RoundTrip
+pub mod Rewritten
 -- sets of simplices as marks by rank
 pub mod Marks
 -- where refusals point
