@@ -16,7 +16,7 @@ die() {
 install_packages() {
     command -v apt-get >/dev/null || die "please install: $*"
     echo "installing $*" >&2
-    apt-get install -y "$@" >&2 || die "cannot install: $*"
+    { apt-get update; apt-get install -y "$@"; } >&2 || die "cannot install: $*"
 }
 
 # wanted COMMAND PACKAGE...: installs the packages where the command is missing.
