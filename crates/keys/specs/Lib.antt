@@ -1,0 +1,2 @@
+-- Keys in rank order and the chains that lead through the keys of one bucket.
+pub mod Chained
