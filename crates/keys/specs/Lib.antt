@@ -1,2 +1,3 @@
 -- Keys in rank order and the chains that lead through the keys of one bucket.
 pub mod Chained
+pub mod Number
