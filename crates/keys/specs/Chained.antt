@@ -6,7 +6,7 @@ use mathlib.Core.Bool.{Bool, true, false}
 use mathlib.Core.List.{List}
 use native.Mathlib.Omega.{arith}
 use lib.Dec.{eqb}
-use lib.ListN.{length, getD, set, length-set}
+use lib.ListN.{length, getD, set, replicate, length-set, length-replicate}
 use lib.Seq.{getD-set-same, getD-set-other}
 use native.Mathlib.Decide.{ℕ-discrete}
 use borrow.Author.Tests.{eq-eqb, ne-eqb}
@@ -69,6 +69,19 @@ last-passes p l (suc n) j e = go (p (getD l n 0)) refl (last-passes p l n j)
         let same : n ≡ j = omega (arith, last-hit p l n h) in
         subst (λ (m : ℕ). p (getD l m 0) ≡ true) same h
     go false h rec = rec (sym (last-miss p l n h) ∙ e)
+
+-- where none was met, none passes the test
+pub last-none : (p : ℕ → Bool) (l : List ℕ) (n : ℕ) → lastBelow p l n ≡ 0 → (i : ℕ) → i < n → p (getD l i 0) ≡ false
+unfolding lastBelow
+last-none p l zero e i lt = absurd (omega arith)
+last-none p l (suc n) e i lt = go (p (getD l n 0)) refl (last-none p l n)
+  where
+    go : (b : Bool) → p (getD l n 0) ≡ b → (lastBelow p l n ≡ 0 → (i : ℕ) → i < n → p (getD l i 0) ≡ false) → p (getD l i 0) ≡ false
+    go true h rec = absurd (omega (arith, last-hit p l n h))
+    go false h rec = elim (ℕ-discrete i n) [
+      | yes same ↦ ap (λ (m : ℕ). p (getD l m 0)) same ∙ h
+      | no other ↦ rec (sym (last-miss p l n h) ∙ e) i (omega arith)
+    ]
 
 -- behind the last key of a bucket there is no key of that bucket
 pub last-through : (p q : ℕ → Bool) (l : List ℕ) → ((k : ℕ) → q k ≡ false → p k ≡ false) → (n : ℕ)
@@ -150,4 +163,23 @@ linked {keys} {first} {next} {n} {key} v c room link e = record {
       (λ (x : ℕ). Chained (set keys n key) (set first (key % buckets) x) (set next n (getD first (key % buckets) 0)) (suc n))
       (sym e)
       (chained-more keys first next n key c room link);
+}
+
+abbrev noKeys : ℕ → List ℕ
+noKeys n = replicate n 0
+
+zeros : (n b : ℕ) → getD (noKeys n) b 0 ≡ 0
+zeros zero b = refl
+zeros (suc n) zero = refl
+zeros (suc n) (suc b) = zeros n b
+
+-- no key at all: each bucket leads nowhere
+pub chained-none : (keys next : List ℕ) → Chained keys (replicate buckets 0) next 0
+unfolding lastBelow
+chained-none keys next = record {
+  keyed = omega arith;
+  linked = omega arith;
+  spread = length-replicate {A = ℕ} buckets 0;
+  begin = λ b l. zeros buckets b;
+  before = λ i l. absurd (omega arith);
 }

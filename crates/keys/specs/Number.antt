@@ -1,9 +1,9 @@
 -- A simplex's own number: its vertices are the digits. Simplices of one dimension with the same number are the same.
-use Prim.Native.Nat.{ℕ, _+_, _*_, _<_}
+use Prim.Native.Nat.{ℕ, _+_, _*_, _≤_, _<_}
 use mathlib.Core.Path.{_≡_, refl, ap₂}
 use mathlib.Core.List.{List, [], _∷_}
 use native.Mathlib.Omega.{arith}
-use lib.ListN.{length}
+use lib.ListN.{length, getD}
 
 abbrev pub digit : ℕ
 digit = 65536
@@ -24,3 +24,23 @@ number-same [] (b ∷ m) size d e same = absurd (omega arith)
 number-same (a ∷ l) [] size d e same = absurd (omega arith)
 number-same (a ∷ l) (b ∷ m) size (more p d) (more q e) same =
     ap₂ (λ (x : ℕ) (y : List ℕ). x ∷ y) (omega arith) (number-same l m (omega arith) d e (omega arith))
+
+-- at most four digits, written out
+pub number-four : (l : List ℕ) → length l ≤ 4
+    → getD l 0 0 + digit * (getD l 1 0 + digit * (getD l 2 0 + digit * getD l 3 0)) ≡ number l
+unfolding number
+number-four [] h = refl
+number-four (a ∷ []) h = omega arith
+number-four (a ∷ b ∷ []) h = omega arith
+number-four (a ∷ b ∷ e ∷ []) h = omega arith
+number-four (a ∷ b ∷ e ∷ f ∷ []) h = omega arith
+number-four (a ∷ b ∷ e ∷ f ∷ g ∷ l) h = absurd (omega arith)
+
+pub digits-four : (l : List ℕ) → length l ≤ 4 → getD l 0 0 < digit → getD l 1 0 < digit → getD l 2 0 < digit → getD l 3 0 < digit
+    → Digits l
+digits-four [] h p q r s = none
+digits-four (a ∷ []) h p q r s = more p none
+digits-four (a ∷ b ∷ []) h p q r s = more p (more q none)
+digits-four (a ∷ b ∷ e ∷ []) h p q r s = more p (more q (more r none))
+digits-four (a ∷ b ∷ e ∷ f ∷ []) h p q r s = more p (more q (more r (more s none)))
+digits-four (a ∷ b ∷ e ∷ f ∷ g ∷ l) h p q r s = absurd (omega arith)

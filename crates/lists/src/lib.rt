@@ -90,7 +90,7 @@ impl Simplex {
     }
 
     // The vertex at a place, 0 past the last.
-    fn vertex(self, place: usize) -> u16
+    pub fn vertex(self, place: usize) -> u16
         ensures { λ r. ⌜ r ≡ getD (verticesOf self) place 0 ⌝ }
     {
         if place < self.size() {

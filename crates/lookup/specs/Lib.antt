@@ -1,0 +1,3 @@
+-- A list of simplices as an index of their numbers: what it is (`Indexed`), and why the look-up may use it (`IndexLaws`).
+pub mod Indexed
+pub mod IndexLaws
