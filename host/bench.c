@@ -1,30 +1,25 @@
 /*
  * How long an answer takes: the whole call, reading included, against the plain
  * C of the checker (reading included) and against PHAT's reduction of the same
- * matrix (no reading, and PHAT looks for no filling).
+ * matrix (no reading, and PHAT looks for no filling).  Then, in a second table, how
+ * long reading alone takes.
  *
  *   bench [ROUNDS]
  *
  * Each time is the best of ROUNDS rounds.  All three must agree on each job.
  */
-#define _POSIX_C_SOURCE 200809L
 #include <stdio.h>
 #include <stdlib.h>
 #include <string.h>
-#include <time.h>
 
+#include "bench_clock.h"
+#include "bench_jobs.h"
 #include "bench_phat.h"
-#include "bench_shapes.h"
+#include "bench_reading.h"
 #include "checker.h"
+#include "numbers.h"
 
-enum { ROUNDS = 60, SIZES = 4 };
-
-static double now(void)
-{
-    struct timespec t;
-    clock_gettime(CLOCK_MONOTONIC, &t);
-    return (double)t.tv_sec + (double)t.tv_nsec * 1e-9;
-}
+enum { ROUNDS = 60, ROUNDS_MOST = 1000000 };
 
 /* ---- the three ways ---- */
 
@@ -42,8 +37,8 @@ static double time_library(const struct draft_job *job, struct answer *answer)
     return now() - begin;
 }
 
-/* Writing reads the whole job and solves nothing: what an answer spends on reading. */
-static double time_reading(const struct draft_job *job)
+/* Writing reads the whole job and solves nothing. */
+static double time_writing(const struct draft_job *job)
 {
     static uint8_t out[MVZ_NORMAL_MOST];
     double begin = now();
@@ -76,14 +71,8 @@ static double time_phat(const struct shape *shape, bool *bounds)
 /* ---- one row ---- */
 
 struct times {
-    double library, reading, plain, phat;
+    double library, writing, plain, phat;
 };
-
-static void keep_best(double *best, double seconds)
-{
-    if (seconds < *best)
-        *best = seconds;
-}
 
 static void insist_on_one_answer(const struct answer *a, const struct answer *b, bool bounds)
 {
@@ -104,7 +93,7 @@ static struct times measure(const struct shape *shape, unsigned rounds)
         struct answer by_library, by_plain;
         bool bounds;
         keep_best(&best.library, time_library(&job, &by_library));
-        keep_best(&best.reading, time_reading(&job));
+        keep_best(&best.writing, time_writing(&job));
         keep_best(&best.plain, time_plain(&job, &by_plain));
         keep_best(&best.phat, time_phat(shape, &bounds));
         insist_on_one_answer(&by_library, &by_plain, bounds);
@@ -112,69 +101,13 @@ static struct times measure(const struct shape *shape, unsigned rounds)
     return best;
 }
 
-/* ---- the shapes ---- */
-
-static void make_random(struct shape *shape, unsigned size)
-{
-    static const unsigned triangles[SIZES] = {64, 128, 256, 512};
-    struct dice dice;
-    dice_seed(&dice, size);
-    shape_random(shape, triangles[size], &dice);
-}
-
-/* More than 320 triangles of a disc, or 340 of a sphere, need more than 512 edges. */
-static void make_disc(struct shape *shape, unsigned size)
-{
-    static const unsigned grid[SIZES][2] = {{8, 4}, {8, 8}, {16, 8}, {16, 10}};
-    shape_disc(shape, grid[size][0], grid[size][1]);
-}
-
-static void make_shuffled_disc(struct shape *shape, unsigned size)
-{
-    struct dice dice;
-    dice_seed(&dice, 10 + size);
-    make_disc(shape, size);
-    shape_shuffle(shape, &dice);
-}
-
-static void make_sphere(struct shape *shape, unsigned size)
-{
-    static const unsigned grid[SIZES][2] = {{8, 4}, {8, 8}, {16, 8}, {17, 10}};
-    struct dice dice;
-    dice_seed(&dice, 20 + size);
-    shape_sphere(shape, grid[size][0], grid[size][1]);
-    shape_shuffle(shape, &dice);
-}
-
-static void make_hostile(struct shape *shape, unsigned size)
-{
-    shape_hostile(shape, 64u << size, false);
-}
-
-static void make_hostile_falling(struct shape *shape, unsigned size)
-{
-    shape_hostile(shape, 64u << size, true);
-}
-
-static const struct {
-    const char *name;
-    void (*make)(struct shape *, unsigned);
-} shapes[] = {
-    {"random", make_random},
-    {"disc, row by row", make_disc},
-    {"disc, shuffled", make_shuffled_disc},
-    {"sphere, shuffled", make_sphere},
-    {"hostile", make_hostile},
-    {"hostile, falling", make_hostile_falling},
-};
-
 /* ---- the table ---- */
 
 static void print_row(const char *name, const struct shape *shape, struct times t,
                       const struct times *smaller)
 {
     printf("%-18s %4u %5u %9.1f %9.1f %9.1f %9.1f %7.2f %8.2f", name, shape->triangles,
-           shape->edges, t.library * 1e6, t.reading * 1e6, t.plain * 1e6, t.phat * 1e6,
+           shape->edges, t.library * 1e6, t.writing * 1e6, t.plain * 1e6, t.phat * 1e6,
            t.library / t.plain, t.library / t.phat);
     if (smaller != NULL)
         printf(" %7.2f", t.library / smaller->library);
@@ -194,19 +127,32 @@ static void print_heading(unsigned rounds)
            "write", "plain C", "PHAT", "lib/C", "lib/PHAT", "growth");
 }
 
-int main(int argc, char **argv)
+static void print_answer_table(unsigned rounds)
 {
-    unsigned rounds = argc > 1 ? (unsigned)strtoul(argv[1], NULL, 10) : ROUNDS;
     static struct shape shape;
     print_heading(rounds);
-    for (unsigned i = 0; i < sizeof shapes / sizeof shapes[0]; i++) {
+    for (unsigned i = 0; i < bench_job_count; i++) {
         struct times before = {0, 0, 0, 0};
+        if (bench_jobs[i].make_shape == NULL)
+            continue; /* no surface, so nothing for PHAT */
         for (unsigned size = 0; size < SIZES; size++) {
-            shapes[i].make(&shape, size);
+            bench_jobs[i].make_shape(&shape, size);
             struct times t = measure(&shape, rounds);
-            print_row(shapes[i].name, &shape, t, size > 0 ? &before : NULL);
+            print_row(bench_jobs[i].name, &shape, t, size > 0 ? &before : NULL);
             before = t;
         }
     }
+}
+
+int main(int argc, char **argv)
+{
+    unsigned rounds = ROUNDS;
+    if (argc > 2 || (argc == 2 && !number_of(argv[1], 1, ROUNDS_MOST, &rounds))) {
+        fprintf(stderr, "usage: bench [ROUNDS], from 1 to %d\n", ROUNDS_MOST);
+        return 2;
+    }
+    print_answer_table(rounds);
+    printf("\n");
+    print_reading_table(rounds);
     return 0;
 }

@@ -1,8 +1,10 @@
-# Sourced by host/run-tests and host/run-bench: what to compile with, what to run
-# with, and the library.  The library is x86-64; elsewhere its programs are built
+# shellcheck shell=sh
+# Sourced by host/run-tests, host/run-bench and host/run-profile: what to compile
+# with, what to run with, and the library.  The library is x86-64; elsewhere its programs are built
 # with a cross compiler and run under the kit's emulator.
 
 script=$(basename "$0")
+caller=$PWD
 cd "$(dirname "$0")/.." || exit 2 # all names below are seen from the repository's root
 out=target/host
 library=${MVZ_LIBRARY:-target/staticlib/libmvozelanke.a}
@@ -11,6 +13,14 @@ flags="-O2 -Wall -Wextra -Werror -Iinclude -Ihost"
 die() {
     echo "$script: $*" >&2
     exit 2
+}
+
+# path_of FILE: a file that the caller named, seen from where the caller stands.
+path_of() {
+    case $1 in
+    /*) echo "$1" ;;
+    *) echo "$caller/$1" ;;
+    esac
 }
 
 install_packages() {
@@ -36,6 +46,7 @@ find_emulator() {
     [ -x "$emulator" ] || die "the kit has no emulator at $emulator"
 }
 
+# shellcheck disable=SC2034 # the C++ compiler is for the scripts that want one
 pick_tools() {
     case $(uname -m) in
     x86_64 | amd64)

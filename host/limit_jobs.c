@@ -1,5 +1,7 @@
 #include "limit_jobs.h"
 
+#include <string.h>
+
 #include "mvozelanke.h"
 
 /* ---- lists ---- */
@@ -67,14 +69,64 @@ void draft_full_lists(struct draft_job *draft)
     draft_choices(draft, 15, 4, 512);
 }
 
-void draft_longest(struct draft_job *draft, unsigned question, unsigned d)
+/* 0123 to the end and back again, 32 times. */
+static void draft_most_edits(struct draft_job *draft)
+{
+    for (unsigned i = 0; i < 32; i++)
+        draft_hex(draft, "0a 00 00 00 07 00 04 00 00 00 ff 01 00 01 02 03 "
+                         "0a 00 00 00 07 00 04 00 ff 01 00 00 00 01 02 03");
+}
+
+void draft_full(struct draft_job *draft, unsigned question, unsigned d)
 {
     draft_start(draft);
     draft_head(draft, question, d, 256);
     draft_full_lists(draft);
     draft_first_positions(draft, 512);
-    /* 0123 to the end and back again, 32 times. */
-    for (unsigned i = 0; i < 32; i++)
-        draft_hex(draft, "0a 00 00 00 07 00 04 00 00 00 ff 01 00 01 02 03 "
-                         "0a 00 00 00 07 00 04 00 ff 01 00 00 00 01 02 03");
+}
+
+/* The 512 simplices of k vertices in the opposite order. */
+static void turn_list_round(uint8_t *list, unsigned k)
+{
+    uint8_t turned[2048];
+    for (unsigned i = 0; i < 512; i++)
+        memcpy(turned + i * k, list + (511 - i) * k, k);
+    memcpy(list, turned, 512 * (size_t)k);
+}
+
+void draft_full_turned_round(struct draft_job *draft, unsigned question, unsigned d)
+{
+    draft_full(draft, question, d);
+    uint8_t *list = draft->bytes + MVZ_RECORD_HEADER + 4; /* past the head */
+    for (unsigned k = 2; k <= 4; k++) {
+        list += MVZ_RECORD_HEADER;
+        turn_list_round(list, k);
+        list += 512 * (size_t)k;
+    }
+}
+
+void draft_longest(struct draft_job *draft, unsigned question, unsigned d)
+{
+    draft_full(draft, question, d);
+    draft_most_edits(draft);
+}
+
+/* From 16 to 17 and back, to 18 and back, and so on, over all of its 239 edges. */
+static void draft_longest_walk(struct draft_job *draft)
+{
+    uint8_t vertex[1024];
+    for (unsigned i = 0; i < sizeof vertex; i += 2) {
+        vertex[i] = 16;
+        vertex[i + 1] = (uint8_t)(17 + i / 2 % 239);
+    }
+    draft_record(draft, MVZ_KIND_WALK, vertex, sizeof vertex);
+}
+
+void draft_longest_with_walk(struct draft_job *draft)
+{
+    draft_start(draft);
+    draft_head(draft, MVZ_FILL, 2, 256);
+    draft_full_lists(draft);
+    draft_longest_walk(draft);
+    draft_most_edits(draft);
 }

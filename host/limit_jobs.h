@@ -17,7 +17,19 @@ void draft_choices(struct draft_job *draft, unsigned corners, unsigned k, unsign
 /* Full lists: 512 edges, triangles and tetrahedra, on 16 vertices and some edges beside. */
 void draft_full_lists(struct draft_job *draft);
 
+/* Full lists and a full chain. */
+void draft_full(struct draft_job *draft, unsigned question, unsigned d);
+
+/*
+ * The same with each list in the opposite order: the facets that are asked for most
+ * stand last in their lists, the worst for a reader that goes through them.
+ */
+void draft_full_turned_round(struct draft_job *draft, unsigned question, unsigned d);
+
 /* The longest job: full lists, a full chain and 64 edits of tetrahedra; 6,690 bytes. */
 void draft_longest(struct draft_job *draft, unsigned question, unsigned d);
+
+/* As long, with a walk of 1,024 steps for the chain. */
+void draft_longest_with_walk(struct draft_job *draft);
 
 #endif
