@@ -9,6 +9,8 @@ ghost use Prim.Native.Nat.{_≤_};
 ghost use lib.ListN.{length};
 ghost use Rattle.format.specs.Numbers.{small};
 ghost use Rattle.format.specs.Reading.{recordAt, mayAsk, chainFits};
+ghost use Rattle.lists.specs.Meaning.{simplicesOf};
+ghost use Rattle.lookup.specs.Indexed.{Proper, Indexed};
 ghost use Rattle.chain_stage.specs.Meaning.{chainOpened, ChainStageRead};
 
 // The record behind the lists: a chain record or a walk with the length of its payload, or the refusal's number.
@@ -57,9 +59,19 @@ pub struct ChainStage {
     pub next: usize,
 }
 
-// Reads what is asked about, over the complex as the file lists it.
-pub fn read_chain(job: &[u8], at: usize, dim: usize, complex: Complex) -> ChainStage
+// Reads what is asked about, over the complex as the file lists it, whose edges are entered.
+pub fn read_chain(
+    job: &[u8],
+    at: usize,
+    dim: usize,
+    complex: Complex,
+    keys: &[u64],
+    first: &[u16],
+    next: &[u16],
+) -> ChainStage
     requires { ⌜ (length (now job) ≤ 6690) × (complex .v ≤ 256) ⌝ }
+    requires { ⌜ Proper 2 (simplicesOf (complex .edges)) ⌝ }
+    requires { ⌜ Indexed (simplicesOf (complex .edges)) (now keys) (now first) (now next) (complex .edges .count) ⌝ }
     ensures { λ r. ⌜ ChainStageRead (now (job .entry)) at dim complex r ⌝ }
 {
     let opened = open_chain(job, at, dim);
@@ -85,7 +97,7 @@ pub fn read_chain(job: &[u8], at: usize, dim: usize, complex: Complex) -> ChainS
             let start = at + Header::BYTES;
             let p = records::payload(job, at, size);
             let edges = complex.edges;
-            let read = chosen::read_walk(p, start, edges);
+            let read = chosen::read_walk(p, start, edges, keys, first, next);
             let verdict = read.verdict;
             let marks = read.marks;
             ChainStage {

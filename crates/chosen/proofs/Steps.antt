@@ -22,6 +22,7 @@ use Rattle.lists.specs.declared.Verdict.the-variants.{Fine, Refused}
 use Rattle.lists.specs.Meaning.{simplicesOf, rankOf}
 use Rattle.lists.specs.Items.{length-simplices}
 use Rattle.lists.specs.declared.Found.{Found}
+use Rattle.lookup.specs.Indexed.{Proper, Keyed, Indexed}
 use Rattle.chosen.specs.Meaning.{WalkRead, stepAt}
 use Rattle.chosen.proofs.Positions.{then-accepted, all-off}
 
@@ -100,9 +101,25 @@ walk-read {p = p} edges full marks {i = i} now done =
 pub rank-few : (edges : SimplexList) → length (edges .items) ≡ 512 → (s : Simplex) (r : ℕ) → rank s (simplicesOf edges) ≡ ranked r → r < 512
 rank-few edges long s r e = omega (arith, rank-stands s (simplicesOf edges) r e .below, length-simplices edges)
 
--- what a look-up says, about a simplex that the definitions know by another name
-pub looked-up : (edges : SimplexList) (found f : Found) (s t : Simplex) → s ≡ t → rankOf found ≡ rank s (simplicesOf edges) → found ≡ f → rank t (simplicesOf edges) ≡ rankOf f
-looked-up edges found f s t e q g = ap (λ x. rank x (simplicesOf edges)) (sym e) ∙ sym q ∙ ap rankOf g
+-- a step is an edge
+step-wide : (p : List ℕ) (i : ℕ) → length (stepAt p i) ≡ 2
+step-wide p i = two (getD p i 0) (cond (ltb (i + 1) (length p)) (getD p (i + 1) 0) (getD p 0 0))
+  where
+    either : (b : Bool) (x y : ℕ) → length (cond b (x ∷ y ∷ []) (y ∷ x ∷ [])) ≡ 2
+    either true x y = refl
+    either false x y = refl
+
+    two : (x y : ℕ) → length (edgeBetween x y) ≡ 2
+    two x y = either (ltb x y) x y
+
+-- what the look-up of a step says of the edges, which are entered
+pub looked-up : (p : List ℕ) (i : ℕ) {edges : List Simplex} {keys first next : List ℕ} {n : ℕ} {found : Found} (f : Found) {s : Simplex}
+    → s ≡ stepAt p i → ((l : List Simplex) → Proper (length s) l → Keyed l keys n → rankOf found ≡ rank s l)
+    → Proper 2 edges → Indexed edges keys first next n → found ≡ f → rank (stepAt p i) edges ≡ rankOf f
+looked-up p i {edges = edges} f e told proper indexed g =
+    ap (λ (x : Simplex). rank x edges) (sym e)
+    ∙ sym (told edges (subst (λ (w : ℕ). Proper w edges) (sym (ap length e ∙ step-wide p i)) proper) (indexed .keyed))
+    ∙ ap rankOf g
 
 -- a step to the next vertex, and the last one, home
 pub step-on : (p : List ℕ) (i : ℕ) → i + 1 < length p → stepAt p i ≡ edgeBetween (getD p i 0) (getD p (i + 1) 0)

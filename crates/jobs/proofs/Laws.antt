@@ -6,7 +6,7 @@ use mathlib.Core.Bool.{Bool, true, false, not}
 use mathlib.Core.Logic.{_⊎_, inl, inr}
 use mathlib.Core.List.{List, []}
 use native.Mathlib.Omega.{arith}
-use lib.ListN.{length}
+use lib.ListN.{length, replicate, length-replicate}
 use lib.Dec.{eqb, leb, ltb}
 use borrow.Author.Tests.{lt-ltb, le-ltb, eq-eqb, ne-eqb}
 use Rattle.format.specs.Numbers.{small, tooLong, shape, badHead, headKind, edgesKind, trianglesKind, tetrahedraKind}
@@ -26,6 +26,9 @@ use Rattle.heads.specs.declared.Head.{Head}
 use Rattle.heads.specs.declared.HeadRead.{HeadRead}
 use Rattle.heads.specs.declared.HeadRead.the-variants.{Sound}
 use Rattle.heads.specs.Meaning.{headOf, headReading, HeadKnown}
+use Rattle.lookup.specs.Indexed.{Indexed, Blank}
+use Rattle.lookup.specs.IndexLaws.{sound-proper, proper-none}
+use Rattle.reading_lists.specs.Items.{FacesIn}
 use Rattle.stages.specs.Meaning.{listRead}
 use Rattle.stages.specs.declared.ListRead.{ListRead}
 use Rattle.complexes.specs.Meaning.{jobOf, complexOf, listOf, Marked}
@@ -66,6 +69,23 @@ pub list-known : (b : List ℕ) (at kind v : ℕ) (faces : List Simplex) (l : Li
 list-known b at kind v faces l positive e =
     let known = list-sound small b at kind v faces l positive e in
     record { sound = known .0; few = known .1 }
+
+-- AN INDEX of a list that was read serves the reading of the list above it.
+pub faces-in : (width : ℕ) {v n : ℕ} {faces : List Simplex} (l : List Simplex) {keys first next : List ℕ} → ListSound (width - 1) v faces l
+    → Indexed l keys first next n → FacesIn width l keys n
+faces-in width l known indexed = record { proper = sound-proper (known .sound); keyed = indexed .keyed }
+
+-- no list lies below the edges
+pub no-faces : (keys : List ℕ) → FacesIn 2 [] keys 0
+no-faces keys = record { proper = proper-none 1; keyed = record { count = refl; own = λ i lt. absurd (omega arith) } }
+
+-- arrays of zeros hold no index yet
+pub zeros-blank : Blank (replicate 512 0) (replicate 1021 0) (replicate 512 0)
+zeros-blank = record {
+  keys-room = omega (arith, length-replicate {A = ℕ} 512 0);
+  next-room = omega (arith, length-replicate {A = ℕ} 512 0);
+  none = refl;
+}
 
 -- THE STAGES of the definition, one behind the other.
 module _ (b : List ℕ) (at : ℕ) (h : reader.Head) where

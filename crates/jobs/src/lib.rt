@@ -15,6 +15,7 @@ ghost use Rattle.format.specs.Numbers.{small};
 ghost use Rattle.format.specs.Reading.{reading, afterHead, afterLists, chainDimension, questionOf};
 ghost use Rattle.format.specs.Sound.{SoundComplex};
 ghost use Rattle.lists.specs.Meaning.{simplicesOf};
+ghost use Rattle.lookup.specs.Indexed.{Indexed};
 ghost use Rattle.heads.specs.Meaning.{headOf};
 ghost use Rattle.complexes.specs.Meaning.{complexOf};
 ghost use Rattle.jobs.specs.Meaning.{Outcome, SoundHead, ListSound, afterEdges, afterTriangles};
@@ -57,23 +58,32 @@ pub fn chain_dimension(head: Head) -> usize
     d
 }
 
-// What is asked about, and then the edits.
-fn after_lists(job: &[u8], head: Head, at: usize, complex: Complex) -> JobRead
+// What is asked about, and then the edits. The edges are entered, for a walk.
+fn after_lists(
+    job: &[u8],
+    head: Head,
+    at: usize,
+    complex: Complex,
+    keys: &[u64],
+    first: &[u16],
+    next: &[u16],
+) -> JobRead
     requires { ⌜ length (now job) ≤ 6690 ⌝ }
     requires { ⌜ SoundHead head ⌝ }
     requires { ⌜ head .v ≡ complex .v ⌝ }
     requires { ⌜ SoundComplex small (complexOf complex) ⌝ }
+    requires { ⌜ Indexed (simplicesOf (complex .edges)) (now keys) (now first) (now next) (complex .edges .count) ⌝ }
     ensures { λ r. ⌜ Outcome (afterLists small (now (job .entry)) (headOf head) at (complexOf complex)) r ⌝ }
 {
     let dim = chain_dimension(head);
-    let asked = chain_stage::read_chain(job, at, dim, complex);
+    let asked = chain_stage::read_chain(job, at, dim, complex, keys, first, next);
     let verdict = asked.verdict;
     match verdict {
         Verdict::Refused(number, place) => JobRead::refused(number, place),
         Verdict::Fine => {
             let marks = asked.marks;
-            let next = asked.next;
-            let edited = edits::read_edits(job, next, complex, marks, dim);
+            let behind = asked.next;
+            let edited = edits::read_edits(job, behind, complex, marks, dim);
             let verdict = edited.verdict;
             let complex = edited.complex;
             let marks = edited.marks;
@@ -89,21 +99,44 @@ fn after_lists(job: &[u8], head: Head, at: usize, complex: Complex) -> JobRead
     }
 }
 
-// The tetrahedra, over the triangles.
+// The tetrahedra, over the triangles. Both lists behind are entered.
 fn after_triangles(
     job: &[u8],
     head: Head,
     at: usize,
     edges: SimplexList,
+    edge_keys: &[u64],
+    edge_first: &[u16],
+    edge_next: &[u16],
     triangles: SimplexList,
+    keys: &[u64],
+    first: &[u16],
+    next: &[u16],
 ) -> JobRead
     requires { ⌜ length (now job) ≤ 6690 ⌝ }
     requires { ⌜ SoundHead head ⌝ }
     requires { ⌜ ListSound 2 (head .v) [] (simplicesOf edges) ⌝ }
+    requires { ⌜ Indexed (simplicesOf edges) (now «edge_keys») (now «edge_first») (now «edge_next») (edges .count) ⌝ }
     requires { ⌜ ListSound 3 (head .v) (simplicesOf edges) (simplicesOf triangles) ⌝ }
+    requires { ⌜ Indexed (simplicesOf triangles) (now keys) (now first) (now next) (triangles .count) ⌝ }
     ensures { λ r. ⌜ Outcome (afterTriangles (now (job .entry)) (headOf head) at (simplicesOf edges) (simplicesOf triangles)) r ⌝ }
 {
-    let read = stages::read_list(job, at, SimplexList::TETRAHEDRA, head.v, triangles);
+    let mut new_keys = [0u64; SimplexList::LIMIT];
+    let mut new_first = [0u16; 1021];
+    let mut new_next = [0u16; SimplexList::LIMIT];
+    let read = stages::read_list(
+        job,
+        at,
+        SimplexList::TETRAHEDRA,
+        head.v,
+        keys,
+        first,
+        next,
+        triangles.count,
+        &mut new_keys,
+        &mut new_first,
+        &mut new_next,
+    );
     let verdict = read.verdict;
     match verdict {
         Verdict::Refused(number, place) => JobRead::refused(number, place),
@@ -115,45 +148,99 @@ fn after_triangles(
                 triangles,
                 tetrahedra,
             };
-            let next = read.next;
-            after_lists(job, head, next, complex)
+            let behind = read.next;
+            after_lists(job, head, behind, complex, edge_keys, edge_first, edge_next)
         }
     }
 }
 
-// The triangles, over the edges.
-fn after_edges(job: &[u8], head: Head, at: usize, edges: SimplexList) -> JobRead
+// The triangles, over the edges, which are entered.
+fn after_edges(
+    job: &[u8],
+    head: Head,
+    at: usize,
+    edges: SimplexList,
+    keys: &[u64],
+    first: &[u16],
+    next: &[u16],
+) -> JobRead
     requires { ⌜ length (now job) ≤ 6690 ⌝ }
     requires { ⌜ SoundHead head ⌝ }
     requires { ⌜ ListSound 2 (head .v) [] (simplicesOf edges) ⌝ }
+    requires { ⌜ Indexed (simplicesOf edges) (now keys) (now first) (now next) (edges .count) ⌝ }
     ensures { λ r. ⌜ Outcome (afterEdges (now (job .entry)) (headOf head) at (simplicesOf edges)) r ⌝ }
 {
-    let read = stages::read_list(job, at, SimplexList::TRIANGLES, head.v, edges);
+    let mut new_keys = [0u64; SimplexList::LIMIT];
+    let mut new_first = [0u16; 1021];
+    let mut new_next = [0u16; SimplexList::LIMIT];
+    let read = stages::read_list(
+        job,
+        at,
+        SimplexList::TRIANGLES,
+        head.v,
+        keys,
+        first,
+        next,
+        edges.count,
+        &mut new_keys,
+        &mut new_first,
+        &mut new_next,
+    );
     let verdict = read.verdict;
     match verdict {
         Verdict::Refused(number, place) => JobRead::refused(number, place),
         Verdict::Fine => {
             let triangles = read.list;
-            let next = read.next;
-            after_triangles(job, head, next, edges, triangles)
+            let behind = read.next;
+            after_triangles(
+                job,
+                head,
+                behind,
+                edges,
+                keys,
+                first,
+                next,
+                triangles,
+                &new_keys,
+                &new_first,
+                &new_next,
+            )
         }
     }
 }
 
-// The edges.
+// The edges. Their facets are vertices, which no list holds, so no faces are entered.
 fn after_head(job: &[u8], head: Head, at: usize) -> JobRead
     requires { ⌜ length (now job) ≤ 6690 ⌝ }
     requires { ⌜ SoundHead head ⌝ }
     ensures { λ r. ⌜ Outcome (afterHead small (now (job .entry)) at (headOf head)) r ⌝ }
 {
-    let read = stages::read_list(job, at, SimplexList::EDGES, head.v, SimplexList::empty());
+    let no_keys = [0u64; 1];
+    let no_first = [0u16; 1021];
+    let no_next = [0u16; 1];
+    let mut new_keys = [0u64; SimplexList::LIMIT];
+    let mut new_first = [0u16; 1021];
+    let mut new_next = [0u16; SimplexList::LIMIT];
+    let read = stages::read_list(
+        job,
+        at,
+        SimplexList::EDGES,
+        head.v,
+        &no_keys,
+        &no_first,
+        &no_next,
+        0,
+        &mut new_keys,
+        &mut new_first,
+        &mut new_next,
+    );
     let verdict = read.verdict;
     match verdict {
         Verdict::Refused(number, place) => JobRead::refused(number, place),
         Verdict::Fine => {
             let edges = read.list;
-            let next = read.next;
-            after_edges(job, head, next, edges)
+            let behind = read.next;
+            after_edges(job, head, behind, edges, &new_keys, &new_first, &new_next)
         }
     }
 }

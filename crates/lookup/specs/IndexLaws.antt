@@ -12,7 +12,7 @@ use lib.ListN.{length, take, getD, set, replicate, length-append, length-set, Li
 use lib.Seq.{getD-set-same, getD-set-other, getD-append-seam, take-suc, take-all}
 use borrow.Author.Tests.{eq-eqb, eqb-true}
 use Rattle.format.specs.Simplex.{Simplex, Rank, ranked, unlisted, rank, listed, allListed, facets, same}
-use Rattle.format.specs.Listed.{StandsAt, rank-stands, isRanked, listed-ranked, same-equal, true-not-false}
+use Rattle.format.specs.Listed.{StandsAt, rank-stands, same-equal, true-not-false}
 use Rattle.format.specs.Reading.{without}
 use Rattle.format.specs.Moves.{length-without}
 use Rattle.format.specs.Facets.{facetsBelow, facets-below, facet-missing, facet-found, facets-none}
@@ -81,9 +81,9 @@ each-more P l s old new i lt = elim (ℕ-discrete i (length l)) [
       subst P (sym (List·getD-append l (s ∷ []) [] i inside)) (old i inside)
 ]
 
-pub proper-more : {width : ℕ} (l : List Simplex) (s : Simplex) → Proper width l → length s ≡ width → rank s l ≡ unlisted
+pub proper-more : {width : ℕ} (l : List Simplex) (s : Simplex) → Proper width l → length s ≡ width → listed s l ≡ false
     → Proper width (l ++ (s ∷ []))
-unfolding copies isRanked
+unfolding copies
 proper-more {width} l s p w fresh = record {
   wide = each-more (λ (x : Simplex). length x ≡ width) l s (p .wide) w;
   once = λ t. once t (same t s) refl;
@@ -94,8 +94,7 @@ proper-more {width} l s p w fresh = record {
 
     once : (t : Simplex) (x : Bool) → same t s ≡ x → copies t (l ++ (s ∷ [])) ≤ 1
     once t true e =
-        let out : listed s l ≡ false = listed-ranked 0 s l ∙ ap isRanked fresh in
-        let none : copies t l ≡ 0 = subst (λ (x : Simplex). copies x l ≡ 0) (sym (same-equal t s e)) (unlisted-copies s l out) in
+        let none : copies t l ≡ 0 = subst (λ (x : Simplex). copies x l ≡ 0) (sym (same-equal t s e)) (unlisted-copies s l fresh) in
         omega (arith, copies-append t l (s ∷ []), last t true e)
     once t false e = omega (arith, copies-append t l (s ∷ []), last t false e, p .once t)
 

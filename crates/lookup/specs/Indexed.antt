@@ -1,12 +1,12 @@
 -- A list of simplices as an index: the first n keys are the simplices' own numbers, and crate `keys` chains them. A list
 -- whose simplices have as many vertices each, none of them twice, is looked up by numbers alone.
-use Prim.Native.Nat.{ℕ, suc, _<_}
+use Prim.Native.Nat.{ℕ, suc, _≤_, _<_}
 use mathlib.Core.Path.{_≡_}
 use mathlib.Core.List.{List, []}
-use lib.ListN.{length, getD, set}
+use lib.ListN.{length, getD, set, replicate}
 use Rattle.format.specs.Simplex.{Simplex}
 use Rattle.format.specs.Marks.{Once}
-use Rattle.keys.specs.Chained.{Chained}
+use Rattle.keys.specs.Chained.{Chained, buckets}
 use Rattle.keys.specs.Number.{number, Digits}
 
 -- the simplices of a list have as many vertices each, and none stands twice
@@ -28,6 +28,12 @@ pub record Keyed (l : List Simplex) (keys : List ℕ) (n : ℕ) : Type 0 where
 pub record Indexed (l : List Simplex) (keys first next : List ℕ) (n : ℕ) : Type 0 where
   pub chained : Chained keys first next n
   pub keyed : Keyed l keys n
+
+-- lent arrays that hold no index yet, with room for a whole list
+pub record Blank (keys first next : List ℕ) : Type 0 where
+  pub keys-room : 512 ≤ length keys
+  pub next-room : 512 ≤ length next
+  pub none : first ≡ replicate buckets 0
 
 -- what `enter` leaves: the simplex's number stands at n, and the first n + 1 keys are chained
 pub record Entered (s : Simplex) (keys keys′ first′ next′ : List ℕ) (n : ℕ) : Type 0 where

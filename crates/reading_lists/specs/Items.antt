@@ -1,13 +1,15 @@
 -- The judgement of one item of a list, and what reading a whole list comes to.
-use Prim.Native.Nat.{ℕ, _+_, _*_, _^_, _≤_, _<_}
-use mathlib.Core.Bool.{not, cond}
-use mathlib.Core.List.{List}
+use Prim.Native.Nat.{ℕ, _+_, _-_, _*_, _^_, _≤_, _<_}
+use mathlib.Core.Path.{_≡_}
+use mathlib.Core.Bool.{false, not, cond}
+use mathlib.Core.List.{List, []}
 use lib.ListN.{length}
 use Rattle.format.specs.Numbers.{vertex, twice, face}
 use Rattle.format.specs.Simplex.{Simplex, soundSimplex, listed, allListed}
-use Rattle.format.specs.Reading.{Reading, owedFacets}
+use Rattle.format.specs.Reading.{Reading, owedFacets, itemsOf, readItems}
 use Rattle.lists.specs.Meaning.{simplicesOf}
 use Rattle.lists.specs.Verdicts.{readingOf}
+use Rattle.lookup.specs.Indexed.{Proper, Keyed, Indexed}
 use Rattle.reading_lists.specs.declared.ItemsRead.{ItemsRead}
 
 -- the first of 6, 7, 8 that an item meets, behind the items `before`; 0 where it meets none
@@ -16,6 +18,18 @@ refusalOf width v faces before s =
     cond (not (soundSimplex v s)) vertex
     (cond (listed s before) twice
     (cond (not (allListed (owedFacets width s) faces)) face 0))
+
+-- the list of the facets, of which the first m keys are the numbers
+pub record FacesIn (width : ℕ) (faces : List Simplex) (keys : List ℕ) (m : ℕ) : Type 0 where
+  pub proper : Proper (width - 1) faces
+  pub keyed : Keyed faces keys m
+
+-- the judgement of an item by the indexes: that of the definition, whatever lists they are indexes of
+pub record Judged (keys : List ℕ) (n : ℕ) (faceKeys : List ℕ) (m : ℕ) (s : Simplex) (v width number : ℕ) : Type 0 where
+  pub is : (before faces : List Simplex) → Proper width before → Keyed before keys n → FacesIn width faces faceKeys m
+      → length s ≡ width → number ≡ refusalOf width v faces before s
+  pub new : number ≡ 0 → (before : List Simplex) → Proper width before → Keyed before keys n → length s ≡ width
+      → listed s before ≡ false
 
 -- the simplices that were read, or the refusal
 abbrev pub itemsRead : ItemsRead → Reading (List Simplex)
@@ -28,3 +42,9 @@ pub record Shaped (p : List ℕ) (base width : ℕ) : Type 0 where
   pub most : width ≤ 4
   pub fits : length p ≤ width * 512
   pub places : base + length p < 2 ^ 64
+
+-- What reading a list leaves: the definition's reading, over whatever list the faces' keys are of, and an index of the items
+-- read.
+pub record ItemsTold (p : List ℕ) (base v width : ℕ) (faceKeys : List ℕ) (m : ℕ) (keys first next : List ℕ) (r : ItemsRead) : Type 0 where
+  pub reads : (faces : List Simplex) → FacesIn width faces faceKeys m → itemsRead r ≡ readItems width v faces base [] (itemsOf width p)
+  pub indexed : Indexed (simplicesOf (r .list)) keys first next (r .list .count)

@@ -1,6 +1,6 @@
 -- What each outcome of a stage's tests comes to in the definitions.
 use Prim.Native.Nat.{ℕ, _+_, _*_, _%_, _≤_, _<_}
-use mathlib.Core.Path.{_≡_, refl, sym, _∙_, ap}
+use mathlib.Core.Path.{_≡_, refl, sym, _∙_, ap, subst₂}
 use mathlib.Core.Bool.{Bool, true, false, not, _&&_, and-false}
 use mathlib.Core.List.{List, []}
 use native.Mathlib.Omega.{arith}
@@ -15,7 +15,9 @@ use Rattle.lists.specs.declared.Verdict.{Verdict}
 use Rattle.lists.specs.declared.Verdict.the-variants.{Fine, Refused}
 use Rattle.lists.specs.Verdicts.{readingOf, reading-then}
 use Rattle.lists.specs.Meaning.{simplicesOf}
-use Rattle.stages.specs.Meaning.{listRead}
+use Rattle.lookup.specs.Indexed.{Blank, Indexed}
+use Rattle.lookup.specs.IndexLaws.{indexed-none}
+use Rattle.stages.specs.Meaning.{listRead, ListTold}
 use Rattle.stages.specs.declared.ListRead.{ListRead}
 
 module _ (may : ℕ → Bool) (b : List ℕ) (at : ℕ) where
@@ -62,3 +64,13 @@ module _ (b : List ℕ) (at kind v : ℕ) (faces : List Simplex) where
 
 pub refused-list : (r : ListRead) (n at : ℕ) → r .verdict ≡ Refused n at → listRead r ≡ refused n at
 refused-list r n at e = ap (λ v. readingOf v (record { list = simplicesOf (r .list); next = r .next })) e
+
+-- a record that is refused as a whole leaves the lent arrays as they were
+pub told-refused : {b : List ℕ} {at kind v : ℕ} {faceKeys : List ℕ} {m : ℕ} {keys first next : List ℕ} {n : ℕ} (r : ListRead)
+    → (r .verdict ≡ Refused n at) × (simplicesOf (r .list) ≡ []) × (r .list .count ≡ 0) → Blank keys first next
+    → ((faces : List Simplex) → readList small b at kind v faces ≡ refused n at)
+    → ListTold b at kind v faceKeys m keys first next r
+told-refused {at = at} {keys = keys} {first = first} {next = next} {n = n} r e blank is = record {
+  reads = λ faces under. refused-list r n at (e .0) ∙ sym (is faces);
+  indexed = subst₂ (λ (l : List Simplex) (k : ℕ). Indexed l keys first next k) (sym (e .1)) (sym (e .2)) (indexed-none (blank .none));
+}

@@ -3,13 +3,14 @@ use lists::SimplexList;
 use lists::Verdict;
 use records::Header;
 ghost use mathlib.Core.Path.{_≡_};
+ghost use mathlib.Core.List.{[]};
 ghost use Prim.Native.Nat.{_≤_};
 ghost use lib.Dec.{eqb};
-ghost use Rattle.format.specs.Numbers.{small};
-ghost use Rattle.format.specs.Reading.{readList};
 ghost use Rattle.format.specs.Opened.{opened};
 ghost use Rattle.lists.specs.Meaning.{simplicesOf};
-ghost use Rattle.stages.specs.Meaning.{openedOf, listRead};
+ghost use Rattle.keys.specs.Chained.{Chained};
+ghost use Rattle.lookup.specs.Indexed.{Blank};
+ghost use Rattle.stages.specs.Meaning.{openedOf, ListTold};
 
 // A record that stands at a place: the length of its payload, or the refusal's number.
 pub enum Opened {
@@ -44,7 +45,7 @@ pub struct ListRead {
 
 impl ListRead {
     fn refused(number: u16, at: usize) -> Self
-        ensures { λ r. ⌜ r .verdict ≡ Verdict.Refused number at ⌝ }
+        ensures { λ r. ⌜ (r .verdict ≡ Verdict.Refused number at) × (simplicesOf (r .list) ≡ []) × (r .list .count ≡ 0) ⌝ }
     {
         ListRead {
             verdict: Verdict::Refused(number, at),
@@ -54,10 +55,24 @@ impl ListRead {
     }
 }
 
-// Reads the list record of one kind at a place, over the list of its facets.
-pub fn read_list(job: &[u8], at: usize, kind: u16, v: u16, faces: SimplexList) -> ListRead
+// Reads the list record of one kind at a place, over the m facets entered. What it reads is entered.
+pub fn read_list(
+    job: &[u8],
+    at: usize,
+    kind: u16,
+    v: u16,
+    face_keys: &[u64],
+    face_first: &[u16],
+    face_next: &[u16],
+    m: usize,
+    keys: &mut [u64],
+    first: &mut [u16],
+    next: &mut [u16],
+) -> ListRead
     requires { ⌜ (2 ≤ kind) × (kind ≤ 4) ⌝ }
-    ensures { λ r. ⌜ listRead r ≡ readList small (now (job .entry)) at kind v (simplicesOf faces) ⌝ }
+    requires { ⌜ Chained (now «face_keys») (now «face_first») (now «face_next») m ⌝ }
+    requires { ⌜ Blank (now keys) (now first) (now next) ⌝ }
+    ensures { λ r. ⌜ ListTold (now (job .entry)) at kind v (now («face_keys» .entry)) m (now (keys .exit)) (now (first .exit)) (now (next .exit)) r ⌝ }
 {
     let opened = open(job, at, kind);
     match opened {
@@ -72,7 +87,19 @@ pub fn read_list(job: &[u8], at: usize, kind: u16, v: u16, faces: SimplexList) -
             }
             let start = at + Header::BYTES;
             let p = records::payload(job, at, size);
-            let read = reading_lists::read_items(p, start, v, width, faces);
+            let read = reading_lists::read_items(
+                p,
+                start,
+                v,
+                width,
+                face_keys,
+                face_first,
+                face_next,
+                m,
+                keys,
+                first,
+                next,
+            );
             let verdict = read.verdict;
             let list = read.list;
             ListRead {

@@ -1,6 +1,7 @@
 -- `chain_stage::read_chain` meets its contract: the record is opened, its payload read, and the marks are the set's.
+use Prim.Native.Nat.{ℕ, _+_, _≤_}
 use native.Mathlib.Omega.{arith}
-use mathlib.Core.Path.{_≡_, sym, _∙_, ap}
+use mathlib.Core.Path.{_≡_}
 use lib.ListN.{length}
 use Rattle.format.specs.Numbers.{small, chainKind, walkKind}
 use Rattle.format.specs.Reading.{accepted, mayAsk, chainFits}
@@ -24,12 +25,40 @@ none-requires c κs = search needs
 enum-known-opened-2 : tie.Need-enum-known-opened-2
 enum-known-opened-2 c = search needs
 
+-- what was known at the start, when the record was opened
+abbrev start : tie.After-open-chain → tie.Start
+start c = c .before .before .before .before .before
+
+-- a record of the kind stands there, whole
+module _ (kind : ℕ) (c : tie.After-open-chain) (size : ℕ) where
+  abbrev Stands : Type 0
+  Stands = let a = start c .args in asked (a .job .now) (a .at) (a .dim) ≡ accepted (recordOfKind kind (a .job .now) (a .at) size)
+
+  inside : Stands → start c .args .at + 6 + size ≤ 6690
+  inside whole =
+      let a = start c .args in
+      omega (arith, start c .pre .0, record-inside (mayAsk (a .dim)) (chainFits small) (a .job .now) (a .at) _ whole)
+
+positions : (c : tie.After-known-told2) → Stands chainKind (c .before .before .before) (c .before .opened2 .given .0 .0)
+positions c =
+    let opened = c .before .before .before in
+    let a = start opened .args in
+    told (chainOpened (a .job .now) (a .at)) _ _ _ (opened .open-chain .ensures) (c .before .opened2 .given .1)
+
+positions-inside : (c : tie.After-known-told2) → start (c .before .before .before) .args .at + 6 + c .before .opened2 .given .0 .0 ≤ 6690
+positions-inside c = inside chainKind (c .before .before .before) _ (positions c)
+
+walk : (c : tie.After-known-told3) → Stands walkKind (c .before .before .before) (c .before .opened3 .given .0 .0)
+walk c =
+    let opened = c .before .before .before in
+    let a = start opened .args in
+    told (chainOpened (a .job .now) (a .at)) _ _ _ (opened .open-chain .ensures) (c .before .opened3 .given .1)
+
+walk-inside : (c : tie.After-known-told3) → start (c .before .before .before) .args .at + 6 + c .before .opened3 .given .0 .0 ≤ 6690
+walk-inside c = inside walkKind (c .before .before .before) _ (walk c)
+
 add-start : tie.Need-add-start
-add-start c =
-    let a = c .before .before .before .before .before .args in
-    let size = c .before .opened2 .given .0 .0 in
-    let whole : asked (a .job .now) (a .at) (a .dim) ≡ accepted (recordOfKind chainKind (a .job .now) (a .at) size) = told (chainOpened (a .job .now) (a .at)) _ _ _ (c .before .before .before .open-chain .ensures) (c .before .opened2 .given .1) in
-    omega (arith, record-inside (mayAsk (a .dim)) (chainFits small) (a .job .now) (a .at) _ whole)
+add-start c = omega (arith, positions-inside c)
 
 payload-requires : tie.Need-payload-requires
 payload-requires c κs = search needs
@@ -39,69 +68,61 @@ count-requires c κs = search needs
 
 read-positions-requires : tie.Need-read-positions-requires
 read-positions-requires c κs =
-    let a = c .before .before .before .before .before .before .before .args in
-    let size = c .before .before .before .opened2 .given .0 .0 in
-    let whole : asked (a .job .now) (a .at) (a .dim) ≡ accepted (recordOfKind chainKind (a .job .now) (a .at) size) = told (chainOpened (a .job .now) (a .at)) _ _ _ (c .before .before .before .before .before .open-chain .ensures) (c .before .before .before .opened2 .given .1) in
-    (c .count .ensures .1 (omega arith), omega (arith, record-inside (mayAsk (a .dim)) (chainFits small) (a .job .now) (a .at) _ whole))
+    let known = c .before .before in
+    (c .count .ensures .1 (omega (arith, start (known .before .before .before) .pre .0)), omega (arith, positions-inside known))
 
-add-t23 : tie.Need-add-t23
-add-t23 c =
-    let a = c .before .before .before .before .before .before .before .before .before .args in
-    let size = c .before .before .before .before .before .opened2 .given .0 .0 in
-    let whole : asked (a .job .now) (a .at) (a .dim) ≡ accepted (recordOfKind chainKind (a .job .now) (a .at) size) = told (chainOpened (a .job .now) (a .at)) _ _ _ (c .before .before .before .before .before .before .before .open-chain .ensures) (c .before .before .before .before .before .opened2 .given .1) in
-    omega (arith, record-inside (mayAsk (a .dim)) (chainFits small) (a .job .now) (a .at) _ whole)
+add-t26 : tie.Need-add-t26
+add-t26 c = omega (arith, positions-inside (c .before .before .before .before))
 
 enum-known-opened-3 : tie.Need-enum-known-opened-3
 enum-known-opened-3 c = search needs
 
 add-start-2 : tie.Need-add-start-2
-add-start-2 c =
-    let a = c .before .before .before .before .before .args in
-    let size = c .before .opened3 .given .0 .0 in
-    let whole : asked (a .job .now) (a .at) (a .dim) ≡ accepted (recordOfKind walkKind (a .job .now) (a .at) size) = told (chainOpened (a .job .now) (a .at)) _ _ _ (c .before .before .before .open-chain .ensures) (c .before .opened3 .given .1) in
-    omega (arith, record-inside (mayAsk (a .dim)) (chainFits small) (a .job .now) (a .at) _ whole)
+add-start-2 c = omega (arith, walk-inside c)
 
 payload-requires-2 : tie.Need-payload-requires-2
 payload-requires-2 c κs = search needs
 
 read-walk-requires : tie.Need-read-walk-requires
 read-walk-requires c κs =
-    let a = c .before .before .before .before .before .before .before .args in
-    let size = c .before .before .before .opened3 .given .0 .0 in
-    let whole : asked (a .job .now) (a .at) (a .dim) ≡ accepted (recordOfKind walkKind (a .job .now) (a .at) size) = told (chainOpened (a .job .now) (a .at)) _ _ _ (c .before .before .before .before .before .open-chain .ensures) (c .before .before .before .opened3 .given .1) in
-    omega (arith, record-inside (mayAsk (a .dim)) (chainFits small) (a .job .now) (a .at) _ whole)
+    let known = c .before .before in
+    (omega (arith, walk-inside known), start (known .before .before .before) .pre .1)
 
-add-t24 : tie.Need-add-t24
-add-t24 c =
-    let a = c .before .before .before .before .before .before .before .before .before .args in
-    let size = c .before .before .before .before .before .opened3 .given .0 .0 in
-    let whole : asked (a .job .now) (a .at) (a .dim) ≡ accepted (recordOfKind walkKind (a .job .now) (a .at) size) = told (chainOpened (a .job .now) (a .at)) _ _ _ (c .before .before .before .before .before .before .before .open-chain .ensures) (c .before .before .before .before .before .opened3 .given .1) in
-    omega (arith, record-inside (mayAsk (a .dim)) (chainFits small) (a .job .now) (a .at) _ whole)
+add-t27 : tie.Need-add-t27
+add-t27 c = omega (arith, walk-inside (c .before .before .before .before))
 
 returns : tie.Need-returns
 returns c =
-    let a = c .before .before .before .before .before .before .args in
-    stage-refused (a .job .now) (a .at) (a .dim) (a .complex) _ (c .none .result) _ (told (chainOpened (a .job .now) (a .at)) _ _ _ (c .before .before .before .before .open-chain .ensures) (c .before .before .opened .given .1))
+    let opened = c .before .before .before .before in
+    let a = start opened .args in
+    stage-refused (a .job .now) (a .at) (a .dim) (a .complex) _ (c .none .result) _
+    (told (chainOpened (a .job .now) (a .at)) _ _ _ (opened .open-chain .ensures) (c .before .before .opened .given .1))
+
+-- the marks have a place for each rank
+positions-marked : (c : tie.After-read-positions) → length (c .read-positions .result .marks .on) ≡ 512
+positions-marked c = search needs
+
+walk-marked : (c : tie.After-read-walk) → length (c .read-walk .result .marks .on) ≡ 512
+walk-marked c = search needs
 
 returns-2 : tie.Need-returns-2
 returns-2 c =
-    let a = c .before .before .before .before .before .before .before .before .before .args in
-    let size = c .before .before .before .before .before .opened2 .given .0 .0 in
-    let whole : asked (a .job .now) (a .at) (a .dim) ≡ accepted (recordOfKind chainKind (a .job .now) (a .at) size) = told (chainOpened (a .job .now) (a .at)) _ _ _ (c .before .before .before .before .before .before .before .open-chain .ensures) (c .before .before .before .before .before .opened2 .given .1) in
     let read = c .before .read-positions in
     let counted = c .before .before .count in
-    let full : length (read .result .marks .on) ≡ 512 = search needs in
-    stage-positions (a .job .now) (a .at) (a .dim) (a .complex) size (counted .result) _ (read .result) whole (c .before .before .before .payload .ensures)
-    (counted .ensures .0) (counted .ensures .1 (omega arith)) full (read .ensures)
+    let known = c .before .before .before .before in
+    let begin = start (known .before .before .before) in
+    let a = begin .args in
+    stage-positions (a .job .now) (a .at) (a .dim) (a .complex) _ (counted .result) _ (read .result) (positions known)
+    (c .before .before .before .payload .ensures)
+    (counted .ensures .0) (counted .ensures .1 (omega (arith, begin .pre .0))) (positions-marked (c .before)) (read .ensures)
 
 returns-3 : tie.Need-returns-3
 returns-3 c =
-    let a = c .before .before .before .before .before .before .before .before .before .args in
-    let size = c .before .before .before .before .before .opened3 .given .0 .0 in
-    let whole : asked (a .job .now) (a .at) (a .dim) ≡ accepted (recordOfKind walkKind (a .job .now) (a .at) size) = told (chainOpened (a .job .now) (a .at)) _ _ _ (c .before .before .before .before .before .before .before .open-chain .ensures) (c .before .before .before .before .before .opened3 .given .1) in
     let read = c .before .read-walk in
-    let full : length (read .result .marks .on) ≡ 512 = search needs in
-    stage-walk (a .job .now) (a .at) (a .dim) (a .complex) size _ (read .result) whole (c .before .before .before .payload2 .ensures) full (read .ensures)
+    let known = c .before .before .before .before in
+    let a = start (known .before .before .before) .args in
+    stage-walk (a .job .now) (a .at) (a .dim) (a .complex) _ _ (read .result) (walk known) (c .before .before .before .payload2 .ensures)
+    (walk-marked (c .before)) (read .ensures)
 
 pub read-chain-spec : {M : Type 1} → statement M
 read-chain-spec =
@@ -115,12 +136,12 @@ read-chain-spec =
     payload-requires
     count-requires
     read-positions-requires
-    add-t23
+    add-t26
     enum-known-opened-3
     add-start-2
     payload-requires-2
     read-walk-requires
-    add-t24
+    add-t27
     returns
     returns-2
     returns-3)

@@ -1,8 +1,11 @@
 -- `chosen::read_walk` meets its contract: the loop keeps `Walking`, and each return is one of its ends.
 use Prim.Native.Nat.{_-_}
-use native.Mathlib.Omega.{arith}
+use mathlib.Core.Path.{_≡_}
 use lib.ListN.{length}
-use Rattle.lists.specs.Meaning.{simplicesOf}
+use Rattle.format.specs.Simplex.{rank}
+use Rattle.lists.specs.Meaning.{simplicesOf, rankOf}
+use Rattle.lists.specs.declared.Found.{Found}
+use Rattle.chosen.specs.Meaning.{stepAt}
 use Rattle.lists.specs.Items.{length-mapped}
 use Rattle.chosen.proofs.Steps.{Walking, walking-starts, walking-astray, walking-goes-on, walk-refused, walk-read, rank-few, looked-up}
 use borrow.Author.Needs.{needs}
@@ -10,10 +13,10 @@ use Rattle.chosen.proofs.read_walk.Statement.{statement}
 use Rattle.chosen.proofs.read_walk.Tie as tie
 
 abbrev Inv-loop : tie.InvT-loop
-Inv-loop p base edges marks₀ i₀ marks i = Walking p base (simplicesOf edges) (marks .on) i
+Inv-loop p base edges keys first next marks₀ i₀ marks i = Walking p base (simplicesOf edges) (marks .on) i
 
 abbrev μ-loop : tie.MeasureT-loop
-μ-loop p base edges marks₀ i₀ marks i = length p - i
+μ-loop p base edges keys first next marks₀ i₀ marks i = length p - i
 
 none-requires : tie.Need-none-requires Inv-loop μ-loop
 none-requires c κs = search needs
@@ -24,8 +27,23 @@ loop-holds c = walking-starts _ _ _ (c .none .result .on) (c .none .ensures)
 step-at-requires : tie.Need-step-at-requires Inv-loop μ-loop
 step-at-requires c κs = search needs
 
+-- what was known before the loop
+abbrev start : tie.At-loop Inv-loop μ-loop → tie.Start Inv-loop μ-loop
+start p = p .before .before .before .before .before .before
+
+full : (s : tie.Start Inv-loop μ-loop) → length (s .args .edges .items) ≡ 512
+full s = search (needs, length-mapped)
+
 find-requires : tie.Need-find-requires Inv-loop μ-loop
-find-requires c κs = search needs
+find-requires c κs = start (c .before .before) .pre .1 .1 .chained
+
+-- what the look-up said of the step
+module _ (c : tie.After-find Inv-loop μ-loop) (f : Found) (told : c .find .result ≡ f) where
+  abbrev walk : tie.At-loop Inv-loop μ-loop
+  walk = c .before .before .before
+
+  found-rank : rank (stepAt (start walk .args .p .now) (walk .loop .i)) (simplicesOf (start walk .args .edges)) ≡ rankOf f
+  found-rank = looked-up (start walk .args .p .now) (walk .loop .i) f (c .before .step-at .ensures) (c .find .ensures) (start walk .pre .1 .0) (start walk .pre .1 .1) told
 
 enum-known-found : tie.Need-enum-known-found Inv-loop μ-loop
 enum-known-found c = search needs
@@ -33,21 +51,22 @@ enum-known-found c = search needs
 enum-told : tie.Need-enum-told Inv-loop μ-loop
 enum-told c = search needs
 
-add-t12 : tie.Need-add-t12 Inv-loop μ-loop
-add-t12 c = search needs
+add-t15 : tie.Need-add-t15 Inv-loop μ-loop
+add-t15 c = search needs
 
 returns : tie.Need-returns Inv-loop μ-loop
 returns c =
-    let at = c .before .before .before .before .before .loop in
-    let edges = c .before .before .before .before .before .before .before .before .args .edges in
-    walk-refused _ _ edges (search (needs, length-mapped)) _ _ (at .marks)
-    (walking-astray (at .inv) (omega arith)
-    (looked-up edges _ _ _ _ (c .before .before .before .step-at .ensures) (c .before .before .find .ensures) (c .enum-told .given .1)))
+    let looked = c .before .before in
+    let turn = looked .before .before in
+    let edges = start (turn .before) .args .edges in
+    walk-refused _ _ edges (full (start (turn .before))) _ _ (turn .before .loop .marks)
+    (walking-astray (turn .before .loop .inv) (turn .loop-test .taken) (found-rank looked _ (c .enum-told .given .1)))
 
 element-write-marks : tie.Need-element-write-marks Inv-loop μ-loop
 element-write-marks c =
-    let edges = c .before .before .before .before .before .before .before .before .before .args .edges in
-    rank-few edges (search (needs, length-mapped)) _ _ (looked-up edges _ _ _ _ (c .before .before .before .before .step-at .ensures) (c .before .before .before .find .ensures) (c .before .found .given .1))
+    let looked = c .before .before .before in
+    let start = start (looked .before .before .before) in
+    rank-few (start .args .edges) (full start) _ _ (found-rank looked _ (c .before .found .given .1))
 
 add-i : tie.Need-add-i Inv-loop μ-loop
 add-i c = search needs
@@ -57,14 +76,15 @@ loop-less c = search needs
 
 loop-again : tie.Need-loop-again Inv-loop μ-loop
 loop-again c =
-    let at = c .before .before .before .before .before .before .loop in
-    let edges = c .before .before .before .before .before .before .before .before .before .args .edges in
-    let found = (looked-up edges _ _ _ _ (c .before .before .before .before .step-at .ensures) (c .before .before .before .find .ensures) (c .before .found .given .1)) in
-    walking-goes-on (at .inv) (omega arith) (c .before .found .given .0 .0) found
-    (rank-few edges (search (needs, length-mapped)) _ _ found)
+    let looked = c .before .before .before in
+    let turn = looked .before .before in
+    let edges = start (turn .before) .args .edges in
+    let found = found-rank looked _ (c .before .found .given .1) in
+    walking-goes-on (turn .before .loop .inv) (turn .loop-test .taken) (c .before .found .given .0 .0) found
+    (rank-few edges (full (start (turn .before))) _ _ found)
 
 returns-2 : tie.Need-returns-2 Inv-loop μ-loop
-returns-2 c = walk-read _ (search (needs, length-mapped)) (c .before .loop .marks) (c .before .loop .inv) (omega arith)
+returns-2 c = walk-read _ (full (start (c .before))) (c .before .loop .marks) (c .before .loop .inv) (c .loop-test .left)
 
 pub read-walk-spec : {M : Type 1} → statement M
 read-walk-spec =
@@ -78,7 +98,7 @@ read-walk-spec =
     find-requires
     enum-known-found
     enum-told
-    add-t12
+    add-t15
     returns
     element-write-marks
     add-i

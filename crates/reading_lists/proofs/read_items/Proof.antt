@@ -1,30 +1,29 @@
--- `reading_lists::read_items` meets its contract: what the definition still has to read behind the items taken stays what
--- it had to read at the start.
+-- `read_items` meets its contract: what the definition still has to read behind the items taken stays what it had to read at
+-- the start, and the items taken are entered.
 -- Assumes nothing.
-use borrow.Author.Needs.{needs}
-use native.Mathlib.Omega.{arith}
 use Prim.Native.Nat.{_-_, _<_}
-use mathlib.Core.Path.{sym, ap}
+use mathlib.Core.Path.{_≡_}
+use native.Mathlib.Omega.{arith}
 use lib.ListN.{length}
-use denote.Ref.{now}
-use Rattle.lists.proofs.Four.{length-part}
-use Rattle.lists.specs.Meaning.{simplicesOf}
 use Rattle.lists.specs.Items.{length-mapped}
-use Rattle.reading_lists.proofs.Taking.{Taking, taking-start, taking-refused, taking-on, taking-end, room}
+use Rattle.reading_lists.proofs.Taking.{Taking, taking-start, taking-refused, taking-on, taking-end, room, keys-room, next-room}
+use borrow.Author.Needs.{needs}
 use Rattle.reading_lists.proofs.read_items.Statement.{statement}
 use Rattle.reading_lists.proofs.read_items.Tie as tie
 
 abbrev Inv-loop : tie.InvT-loop
-Inv-loop p base v width faces list₀ at₀ list at = Taking p base v width (simplicesOf faces) list at
+Inv-loop p base v width face-keys face-first face-next m keys₀ first₀ next₀ list₀ at₀ keys first next list at =
+    Taking p base v width face-keys m list at keys₀ first₀ next₀ keys first next
 
 abbrev μ-loop : tie.MeasureT-loop
-μ-loop p base v width faces list₀ at₀ list at = length p - at
+μ-loop p base v width face-keys face-first face-next m keys₀ first₀ next₀ list₀ at₀ keys first next list at =
+    length p - at
 
 empty-requires : tie.Need-empty-requires Inv-loop μ-loop
 empty-requires c κs = search needs
 
 loop-holds : tie.Need-loop-holds Inv-loop μ-loop
-loop-holds c = taking-start _ _ _ _ _ _ (search (needs, length-mapped)) (c .empty .ensures .0) (c .empty .ensures .1)
+loop-holds c = taking-start _ (search (needs, length-mapped)) (c .empty .ensures) (c .before .before .before .before .before .before .before .before .pre .1 .1)
 
 sub-loop : tie.Need-sub-loop Inv-loop μ-loop
 sub-loop c = search needs
@@ -32,58 +31,91 @@ sub-loop c = search needs
 simplex-at-requires : tie.Need-simplex-at-requires Inv-loop μ-loop
 simplex-at-requires c κs = omega arith
 
+-- what was known before the loop
+abbrev start : tie.At-loop Inv-loop μ-loop → tie.Start Inv-loop μ-loop
+start p = p .before .before .before .before .before .before .before .before .before
+
+-- the list and its index have room for one item more
+module _ (c : tie.In-loop Inv-loop μ-loop) where
+  room-left : c .before .loop .list .count < 512
+  room-left = room (c .before .loop .inv) (start (c .before) .pre .0) (c .loop-test .taken)
+
 judge-requires : tie.Need-judge-requires Inv-loop μ-loop
 judge-requires c κs =
-    let a = c .before .before .before .before .before .args in
-    let b = c .before .before .loop in
-    omega (
-      arith,
-      ap length (c .simplex-at .ensures),
-      length-part (now (a .p)) (b .at) (a .width) (omega (arith, c .before)),
-      c .before .before .before .before .before .pre,
-    )
+    let turn = c .before .before .before .before in
+    (turn .before .loop .inv .indexed .chained, start (turn .before) .pre .1 .0)
 
-add-t16 : tie.Need-add-t16 Inv-loop μ-loop
-add-t16 c = search needs
+add-t27 : tie.Need-add-t27 Inv-loop μ-loop
+add-t27 c = search needs
+
+same-length : tie.Need-same-length Inv-loop μ-loop
+same-length c = search needs
+
+same-length-2 : tie.Need-same-length-2 Inv-loop μ-loop
+same-length-2 c = search needs
+
+same-length-3 : tie.Need-same-length-3 Inv-loop μ-loop
+same-length-3 c = search needs
 
 returns : tie.Need-returns Inv-loop μ-loop
 returns c =
-    let e = c .before .before in
-    let b = e .before in
-    taking-refused _ _ _ _ _ _ _ (b .before .loop .inv) (b .before .before .before .before .pre) (b .loop-test .taken)
-    (e .simplex-at .result)
-    (e .simplex-at .ensures) _ (c .before .judge .ensures) (c .if1 .taken)
+    let judging = c .before in
+    let read = judging .before .before .before .before in
+    let turn = read .before in
+    taking-refused (turn .before .loop .inv) (start (turn .before) .pre .0) (turn .loop-test .taken) (read .simplex-at .result)
+    (read .simplex-at .ensures) (judging .judge .ensures) (c .if1 .taken)
 
--- the list has room for one item more
-room-left : (c : tie.In-loop Inv-loop μ-loop) → c .before .loop .list .count < 512
-room-left c = room _ _ _ _ _ _ _ (c .before .loop .inv) (c .before .before .before .before .pre) (c .loop-test .taken)
+enter-requires : tie.Need-enter-requires Inv-loop μ-loop
+enter-requires c κs =
+    let turn = c .before .before .before .before .before .before .before .before .before in
+    let inv = turn .before .loop .inv in
+    let shape = start (turn .before) .pre .0 in (
+      inv .indexed .chained,
+      (keys-room inv shape (turn .loop-test .taken), next-room inv shape (turn .loop-test .taken), omega (arith, room-left turn)),
+    )
 
 mul-s : tie.Need-mul-s Inv-loop μ-loop
-mul-s c = omega (arith, room-left (c .before .before .before))
+mul-s c = omega (arith, room-left (c .before .before .before .before .before .before .before .before .before .before .before .before .before .before .before .before))
 
 element-set-from-s : tie.Need-element-set-from-s Inv-loop μ-loop
-element-set-from-s c = room-left (c .before .before .before)
+element-set-from-s c = omega (arith, room-left (c .before .before .before .before .before .before .before .before .before .before .before .before .before .before .before .before))
 
 add-list : tie.Need-add-list Inv-loop μ-loop
-add-list c = omega (arith, room-left (c .before .before .before))
+add-list c = omega (arith, room-left (c .before .before .before .before .before .before .before .before .before .before .before .before .before .before .before .before))
 
 add-at : tie.Need-add-at Inv-loop μ-loop
-add-at c = search needs
+add-at c =
+    let turn = c .before .before .before .before .before .before .before .before .before .before .before .before .before .before .before .before in
+    let shape = start (turn .before) .pre .0 in
+    record { fits = omega (arith, turn .loop-test .taken, turn .before .loop .inv .within, shape .places) }
 
 loop-less : tie.Need-loop-less Inv-loop μ-loop
-loop-less c = search needs
+loop-less c =
+    let turn = c .before .before .before .before .before .before .before .before .before .before .before .before .before .before .before .before in
+    omega (arith, turn .loop-test .taken, turn .before .loop .inv .within, start (turn .before) .pre .0 .least)
 
 loop-again : tie.Need-loop-again Inv-loop μ-loop
 loop-again c =
-    let e = c .before .before in
-    let b = e .before in
-    taking-on _ _ _ _ _ _ _ (b .before .loop .inv) (b .before .before .before .before .pre) (b .loop-test .taken) _
-    (e .simplex-at .ensures) _ (c .before .judge .ensures) (c .if1 .left)
+    let put = c .before .before .before .before .before .before in
+    let passed = put .before .before .before .before in
+    let judging = passed .before in
+    let read = judging .before .before .before .before in
+    let turn = read .before in
+    taking-on (turn .before .loop .inv) (start (turn .before) .pre .0) (turn .loop-test .taken) (read .simplex-at .result)
+    (read .simplex-at .ensures) (judging .judge .ensures) (passed .if1 .left) (put .enter .ensures)
+    (put .enter .kept .0) (put .enter .kept .1 .0) (put .enter .kept .1 .1 .0)
+
+same-length-4 : tie.Need-same-length-4 Inv-loop μ-loop
+same-length-4 c = search needs
+
+same-length-5 : tie.Need-same-length-5 Inv-loop μ-loop
+same-length-5 c = search needs
+
+same-length-6 : tie.Need-same-length-6 Inv-loop μ-loop
+same-length-6 c = search needs
 
 returns-2 : tie.Need-returns-2 Inv-loop μ-loop
-returns-2 c =
-    let b = c .before in
-    sym (taking-end _ _ _ _ _ _ _ (b .loop .inv) (b .before .before .before .pre) (c .loop-test .left))
+returns-2 c = taking-end (c .before .loop .inv) (start (c .before) .pre .0) (c .loop-test .left)
 
 pub read-items-spec : {M : Type 1} → statement M
 read-items-spec =
@@ -96,12 +128,19 @@ read-items-spec =
     sub-loop
     simplex-at-requires
     judge-requires
-    add-t16
+    add-t27
+    same-length
+    same-length-2
+    same-length-3
     returns
+    enter-requires
     mul-s
     element-set-from-s
     add-list
     add-at
     loop-less
     loop-again
+    same-length-4
+    same-length-5
+    same-length-6
     returns-2)
