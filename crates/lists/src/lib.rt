@@ -12,7 +12,7 @@ ghost use Rattle.lists.specs.Moved.{MovedList, MovedMarks, Toward};
 // A simplex: its vertices stand first in the array, one more of them than the dimension.
 pub struct Simplex {
     pub vertices: [u16; 4],
-    pub dim: u8,
+    pub dim: u16,
 }
 
 // A list of simplices in rank order: the first `count` items.
@@ -130,7 +130,7 @@ impl Simplex {
                 self.kept(skip, 2),
                 self.kept(skip, 3),
             ],
-            dim: (size - 2) as u8,
+            dim: (size - 2) as u16,
         }
     }
 }
@@ -302,7 +302,7 @@ pub fn simplex_at(p: &[u8], at: usize, width: usize) -> Simplex
             vertex_at(p, at, width, 2),
             vertex_at(p, at, width, 3),
         ],
-        dim: (width - 1) as u8,
+        dim: (width - 1) as u16,
     }
 }
 
