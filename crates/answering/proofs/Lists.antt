@@ -1,16 +1,14 @@
 -- The lists of a sound complex: they stand over one another, and are few enough for the work memory, as their members are
 -- for the output.
-use Prim.Native.Nat.{ℕ, zero, suc, _+_, _-_, _*_, _≤_, _<_}
-use mathlib.Core.Path.{_≡_, refl, sym, _∙_, ap, subst}
-use mathlib.Core.Bool.{Bool, true}
+use Prim.Native.Nat.{ℕ, zero, suc, _+_, _-_, _≤_, _<_}
+use mathlib.Core.Path.{_≡_, sym, _∙_, ap, subst}
 use mathlib.Core.List.{List, [], _∷_}
 use native.Mathlib.Omega.{arith}
-use native.Mathlib.Nat.{mul-le-mul-left}
 use native.Mathlib.Numerals.{add-one, sub-one}
 use lib.ListN.{length}
 use Rattle.chains.specs.Chain.{Chain}
 use Rattle.format.specs.Numbers.{small, answerKind}
-use Rattle.format.specs.Simplex.{Simplex, Complex, soundSimplex, listed, simplices, lower, vertexList}
+use Rattle.format.specs.Simplex.{Simplex, Complex, simplices, lower}
 use Rattle.format.specs.Answer.{members, verticesOf, recordOf, chainRecord}
 use Rattle.format.specs.Sound.{SoundComplex}
 use Rattle.format.specs.Marks.{vertices-once}
@@ -19,7 +17,6 @@ use Rattle.format.specs.Members.{members-listed, members-few, simplices-sound}
 use Rattle.lookup.specs.Indexed.{Proper}
 use Rattle.lookup.specs.IndexLaws.{proper-none, sound-proper}
 use Rattle.solver.specs.Columns.{Over}
-use Rattle.writer.specs.Meaning.{listBytes}
 use Rattle.writer.specs.Normal.{list-bytes}
 use Rattle.answers.specs.Meaning.{memberBytes, chainBytes}
 

@@ -42,6 +42,12 @@ least-requires c κs = search needs
 start-requires : tie.Need-start-requires Inv-loop μ-loop
 start-requires c κs = search needs
 
+loop-holds : tie.Need-loop-holds Inv-loop μ-loop
+loop-holds c = λ rows u.
+    let cleared = c .before .before in
+    let start = cleared .before .before .before .before .before .before .before .before .before .before .before .before in
+    loading-start (cleared .start .ensures) refl (start .pre .1 .1 .1 .1)
+
 -- what was known before the loop
 module _ (p : tie.At-loop Inv-loop μ-loop) where
   abbrev emptied : tie.After-start Inv-loop μ-loop
@@ -89,12 +95,6 @@ module _ (c : tie.In-loop Inv-loop μ-loop) where
   bits-low =
       let some : 0 < lent .args .h = omega (arith, in-half) in
       omega (arith, lent .good .0 .0, halves-fit (lent .args .h) (length (lent .args .work .now)) some (lent .pre .1 .1 .1 .0))
-
-loop-holds : tie.Need-loop-holds Inv-loop μ-loop
-loop-holds c = λ rows u.
-    let cleared = c .before .before in
-    let start = cleared .before .before .before .before .before .before .before .before .before .before .before .before in
-    loading-start (cleared .start .ensures) refl (start .pre .1 .1 .1 .1)
 
 add-i : tie.Need-add-i Inv-loop μ-loop
 add-i c = search needs
