@@ -9,8 +9,10 @@ use native.Mathlib.Omega.{arith}
 use lib.ListN.{length}
 use Rattle.columns.specs.Column.{xorBytes}
 use Rattle.columns.specs.ColumnLaws.{length-xor}
-use Rattle.columns.specs.Slot.{slot, occupiedAt}
-use Rattle.columns.specs.Reduce.{heldAt, pick, redRow, redBytes, stuckAt, Settled, settled, rowsLeft}
+use Rattle.chains.specs.Chain.{Under}
+use Rattle.columns.specs.Slot.{chainR, slot, occupiedAt}
+use Rattle.columns.specs.Reduce.{heldAt, pick, redRow, redBytes, stuckAt, Settled, settled, rowsLeft, Inserts}
+use Rattle.columns.specs.declared.Highest.{Highest}
 use Rattle.columns.specs.declared.Highest.the-variants.{At, Nothing}
 
 -- ---- one row
@@ -131,6 +133,19 @@ module _ (h : ℕ) (work : List ℕ) where
       ∙ ap (settled h work m) (row-not-held h work m cur (q m l (omega arith)))
       ∙ ih (λ j a b. q j a (omega arith)))
       n l none
+
+  -- so an insertion that begins above the highest row that is held is one that begins at any row higher up
+  pub inserts-from : {top n : ℕ} {cur left after : List ℕ} {answer : Highest} → top ≤ n → Under top (chainR h cur)
+      → Inserts h work top cur answer left after → Inserts h work n cur answer left after
+  inserts-from {top} {n} {cur} le low s =
+      let same : settled h work n cur ≡ settled h work top cur = settled-skip top n cur le (λ j from below. low j from) in
+      record {
+        settles = record {
+          where-stuck = s .settles .where-stuck ∙ sym (ap (λ (t : Settled). t .at) same);
+          what-left = s .settles .what-left ∙ sym (ap (λ (t : Settled). t .cur) same);
+        };
+        stored = s .stored;
+      }
 
   -- what each row keeps holds where the reduction settles: stuck at a row, or through with all of them
   pub by-settling : (P : ℕ → List ℕ → Type 0) (Q : Settled → Type 0) (n : ℕ) (cur : List ℕ)

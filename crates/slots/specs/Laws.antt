@@ -13,7 +13,7 @@ use Rattle.columns.specs.Slot.{roomOf, chainR, chainV, slot, storeSlot}
 use Rattle.columns.specs.SlotLaws.{slot-stored, slot-kept}
 use Rattle.columns.specs.PairLaws.{slotR-zeros, slotV-zeros}
 use Rattle.columns.specs.Reduce.{redBytes, Settles, Inserts, storedAt, slotRows, Ends}
-use Rattle.columns.specs.ReduceLaws.{length-settled, settled-at}
+use Rattle.columns.specs.ReduceLaws.{inserts-from, length-settled, settled-at}
 use Rattle.columns.specs.ReduceChains.{settle-chains, red-chains}
 use Rattle.columns.specs.declared.Highest.{Highest}
 use Rattle.columns.specs.declared.Highest.the-variants.{At, Nothing}
@@ -53,9 +53,14 @@ module _ {h m : ℕ} {work cur : List ℕ} (low : m ≤ 8 * h) (room : roomOf h 
       cur answer left s whole
       (subst₂ (Reducing D n k start first m) (sym er) (sym ev) (reducing-start D n m k start first u))
 
-  pub puts-in : {answer : Highest} {left after : List ℕ} → Inserts h work m cur answer left after → PutsIn h m work cur after
-  puts-in {answer} {left} {after} s = record { next = next }
+  -- an insertion may begin at any row above those that the pair holds
+  pub puts-in : {top : ℕ} {answer : Highest} {left after : List ℕ} → top ≤ m → Under top (chainR h cur)
+      → Inserts h work top cur answer left after → PutsIn h m work cur after
+  puts-in {answer = answer} {left = left} {after = after} le held from-top = record { next = next }
     where
+      s : Inserts h work m cur answer left after
+      s = inserts-from h work le held from-top
+
       long : length left ≡ 2 * h
       long = ap length (s .settles .what-left) ∙ length-settled h work m cur ∙ whole
 

@@ -1,9 +1,10 @@
 // Slots in the lent work memory as the reduction of a matrix: what putting a column in, filling a
 // chain and finding the smallest of a class come to, said of chains (specs/Slots.antt).
 ghost use mathlib.Core.Path.{_≡_};
-ghost use Prim.Native.Nat.{_*_, _≤_};
+ghost use Prim.Native.Nat.{ℕ, _*_, _≤_};
 ghost use lib.ListN.{length};
-ghost use Rattle.columns.specs.Slot.{roomOf};
+ghost use Rattle.chains.specs.Chain.{Under};
+ghost use Rattle.columns.specs.Slot.{roomOf, chainR};
 ghost use Rattle.slots.specs.Slots.{Starts, PutsIn, FillsIn, ClassesIn};
 use columns::Highest;
 use columns::clear;
@@ -18,14 +19,15 @@ pub fn start(work: &mut [u8], h: usize)
     clear(work);
 }
 
-// Puts the next column into the slots: the pair in hand is its boundary, and its rank alone.
-pub fn insert_column(work: &mut [u8], cur: &mut [u8], h: usize, rows: usize)
-    requires { ⌜ rows ≤ 8 * h ⌝ }
+// Puts the next column into the slots: the pair in hand is its boundary, which holds no row from `top`
+// on, and its rank alone.
+pub fn insert_column(work: &mut [u8], cur: &mut [u8], h: usize, top: usize)
+    requires { ⌜ top ≤ 8 * h ⌝ }
     requires { ⌜ roomOf h ≤ length (now work) ⌝ }
     requires { ⌜ length (now cur) ≡ 2 * h ⌝ }
-    ensures { λ _. ⌜ PutsIn h rows (now (work .entry)) (now (cur .entry)) (now (work .exit)) ⌝ }
+    ensures { λ _. ⌜ ((m : ℕ) → top ≤ m → m ≤ 8 * h → Under top (chainR h (now (cur .entry))) → PutsIn h m (now (work .entry)) (now (cur .entry)) (now (work .exit))) ⌝ }
 {
-    insert(work, cur, h, rows);
+    insert(work, cur, h, top);
 }
 
 // Whether a chain has a filling.

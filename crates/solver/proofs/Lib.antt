@@ -1,5 +1,4 @@
 -- Lemmas of the proofs of this crate, one file for each loop.
-pub mod Whole
 pub mod Adding
 pub mod Numbering
 pub mod Loading

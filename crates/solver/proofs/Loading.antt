@@ -7,7 +7,7 @@ use native.Mathlib.Numerals.{add-one}
 use mathlib.Core.Path.{_≡_, sym, ap, _∙_, subst}
 use mathlib.Core.List.{List, []}
 use lib.ListN.{length, getD, replicate, length-replicate}
-use Rattle.chains.specs.Chain.{_⊕_, unit}
+use Rattle.chains.specs.Chain.{_⊕_, unit, Under}
 use Rattle.format.specs.Simplex.{Simplex, simplexBoundary, columns}
 use Rattle.format.specs.Matrix.{columns-under}
 use Rattle.columns.specs.Column.{flipped}
@@ -31,8 +31,8 @@ module _ {h : ℕ} {rows cols : List Simplex} where
 
   module _ {i : ℕ} {work₀ work cur : List ℕ} (a : Loading h rows cols i work₀ work cur) where
     -- the pair in hand, from zeros
-    module _ (small : length rows ≤ 8 * h) (below : i < 8 * h) {zeros built made : List ℕ} {s : Simplex} (here : getD cols i [] ≡ s)
-        (cleared : zeros ≡ replicate (length cur) 0) (added : AddsBoundary rows s zeros built)
+    module _ (small : length rows ≤ 8 * h) (below : i < 8 * h) {zeros built made : List ℕ} {s : Simplex} {top : ℕ}
+        (here : getD cols i [] ≡ s) (cleared : zeros ≡ replicate (length cur) 0) (added : AddsBoundary rows s zeros built top)
         (long : length built ≡ length zeros) (put : made ≡ flipped built (8 * h + i)) where
       zeros-whole : length zeros ≡ 2 * h
       zeros-whole = ap length cleared ∙ length-replicate (length cur) 0 ∙ a .whole
@@ -43,13 +43,12 @@ module _ {h : ℕ} {rows cols : List Simplex} where
       made-whole : length made ≡ 2 * h
       made-whole = ap length put ∙ length-flipped built (8 * h + i) ∙ built-whole
 
-      made-rows : chainR h made ≡ columns rows cols i
+      made-rows : chainR h made ≡ simplexBoundary rows s
       made-rows =
           ap (chainR h) put
           ∙ flipped-V-keeps h built built-whole i below
           ∙ added .adds h zeros-whole small
           ∙ ap (λ c. c ⊕ simplexBoundary rows s) (ap (chainR h) cleared ∙ halfR-zeros h (length cur))
-          ∙ ap (simplexBoundary rows) (sym here)
 
       made-column : chainV h made ≡ unit i
       made-column =
@@ -57,14 +56,17 @@ module _ {h : ℕ} {rows cols : List Simplex} where
           ∙ flipped-V h built built-whole i below
           ∙ ap (λ c. c ⊕ unit i) (added .keeps h zeros-whole small ∙ ap (chainV h) cleared ∙ halfV-zeros h (length cur))
 
-      pub loading-on : {m : ℕ} {after left : List ℕ} → m ≡ length rows → i < length cols → PutsIn h m work made after
+      pub loading-on : {after left : List ℕ} → i < length cols
+          → ((m : ℕ) → top ≤ m → m ≤ 8 * h → Under top (chainR h made) → PutsIn h m work made after)
           → length after ≡ length work → length left ≡ length made → Loading h rows cols (i + 1) work₀ after left
-      loading-on {m} {after} {left} size lt puts kept same =
+      loading-on {after} {left} lt puts kept same =
+          let put-in : PutsIn h (length rows) work made after =
+          puts (length rows) (added .within) small (subst (Under top) (sym made-rows) (added .under)) in
           subst (λ k. Loading h rows cols k work₀ after left) (sym (add-one i)) (
           record {
             slots =
-                subst (λ k. PutsIn h k work made after) size puts .next (columns rows cols) (length cols) i lt (columns-under rows cols i)
-                (a .slots) made-rows made-column;
+                put-in .next (columns rows cols) (length cols) i lt (columns-under rows cols i) (a .slots)
+                (made-rows ∙ ap (simplexBoundary rows) (sym here)) made-column;
             within = lt;
             long = kept ∙ a .long;
             whole = same ∙ made-whole;

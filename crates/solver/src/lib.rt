@@ -1,28 +1,32 @@
 // The search for the smallest filling and the smallest chain of a class: the columns of a list are
 // put into the slots of the lent work memory, and the asked chain is reduced by them. Lists come by
-// value; `cur` is a lent pair of columns, 2·h bytes, and holds the answer at the end.
+// value, and are not handed on simplex by simplex: facets are looked up in an index. `cur` is a lent
+// pair of columns, 2·h bytes, and holds the answer at the end.
 ghost use mathlib.Core.Path.{_≡_};
 ghost use Prim.Native.Nat.{_*_, _≤_};
 ghost use lib.ListN.{length};
 ghost use Rattle.columns.specs.Slot.{roomOf, chainR, chainV};
 ghost use Rattle.format.specs.Simplex.{vertexList};
 ghost use Rattle.lists.specs.Meaning.{verticesOf, simplicesOf};
-ghost use Rattle.solver.specs.Columns.{AddsBoundary, Loads, Marked};
+ghost use Rattle.solver.specs.Columns.{Over, RowsFor, AddsBoundary, Loads, Marked};
 ghost use Rattle.solver.specs.Solved.{RimTold, Prepared, FillTold, ClassTold};
 use columns::Highest;
 use columns::clear;
 use columns::flip;
 use columns::next_down;
+use lists::Found;
 use lists::Marks;
 use lists::Simplex;
 use lists::SimplexList;
 use lists::least;
-use lists::same;
 use slots::Filled;
 use slots::class_in;
 use slots::fill_in;
 use slots::insert_column;
 use slots::start;
+
+// The number of buckets of an index (crate `keys`).
+const BUCKETS: usize = 1021;
 
 // The vertices 0 to v - 1 as a list: "vertices rank by number".
 pub fn vertices(v: usize) -> SimplexList
@@ -41,29 +45,36 @@ pub fn vertices(v: usize) -> SimplexList
     list
 }
 
-// Adds the boundary of a simplex to the chain of rows in hand.
-pub fn add_boundary(cur: &mut [u8], rows: SimplexList, s: Simplex)
-    ensures { λ _. ⌜ AddsBoundary (simplicesOf rows) (verticesOf s) (now (cur .entry)) (now (cur .exit)) ⌝ }
+// Adds the boundary of a simplex to the chain of rows in hand: its facets are looked up in the index
+// of the rows. Says from which row on the boundary holds none, so that no search begins higher.
+pub fn add_boundary(
+    cur: &mut [u8],
+    keys: &[u64],
+    first: &[u16],
+    next: &[u16],
+    n: usize,
+    s: Simplex,
+) -> usize
+    requires { ⌜ RowsFor (verticesOf s) (now keys) (now first) (now next) n ⌝ }
+    ensures { λ top. ⌜ ((k : RowsFor (verticesOf s) (now (keys .entry)) (now (first .entry)) (now (next .entry)) n) → AddsBoundary (k .rows) (verticesOf s) (now (cur .entry)) (now (cur .exit)) top) ⌝ }
 {
     let size = s.size();
     if size < 2 {
-        return;
+        return 0;
     }
-    let n = least(rows.count, SimplexList::LIMIT);
+    let mut top = 0;
     let mut left = size;
     while 0 < left {
         left -= 1;
-        let facet = s.facet(left);
-        let mut i = 0;
-        while i < n {
-            let t = rows.items[i];
-            if same(facet, t) {
-                flip(cur, i);
-                break;
+        let found = lookup::find(keys, first, next, n, s.facet(left));
+        if let Found::At(i) = found {
+            flip(cur, i);
+            if top <= i {
+                top = i + 1;
             }
-            i += 1;
         }
     }
+    top
 }
 
 // Puts all columns into the slots, in rising rank, and says how many rows there are.
@@ -76,11 +87,15 @@ pub fn load(
 ) -> usize
     requires { ⌜ length (simplicesOf rows) ≤ 8 * h ⌝ }
     requires { ⌜ length (simplicesOf cols) ≤ 8 * h ⌝ }
+    requires { ⌜ Over (simplicesOf rows) (simplicesOf cols) ⌝ }
     requires { ⌜ roomOf h ≤ length (now work) ⌝ }
     requires { ⌜ length (now cur) ≡ 2 * h ⌝ }
     ensures { λ m. ⌜ Loads h (simplicesOf rows) (simplicesOf cols) m (now (work .exit)) ⌝ }
 {
-    let m = least(rows.count, SimplexList::LIMIT);
+    let mut keys = [0u64; SimplexList::LIMIT];
+    let mut first = [0u16; BUCKETS];
+    let mut next = [0u16; SimplexList::LIMIT];
+    let m = lookup::index(rows, &mut keys, &mut first, &mut next);
     let n = least(cols.count, SimplexList::LIMIT);
     start(work, h);
     let mut i = 0;
@@ -89,9 +104,9 @@ pub fn load(
         i += 1;
         let s = cols.items[rank];
         clear(cur);
-        add_boundary(cur, rows, s);
+        let top = add_boundary(cur, &keys, &first, &next, m, s);
         flip(cur, 8 * h + rank);
-        insert_column(work, cur, h, m);
+        insert_column(work, cur, h, top);
     }
     m
 }
@@ -120,17 +135,21 @@ pub fn rim_closed(
     h: usize,
 ) -> bool
     requires { ⌜ length (simplicesOf lower) ≤ 8 * h ⌝ }
+    requires { ⌜ Over (simplicesOf lower) (simplicesOf rows) ⌝ }
     requires { ⌜ length (now cur) ≡ 2 * h ⌝ }
     ensures { λ r. ⌜ RimTold (simplicesOf lower) (simplicesOf rows) marks r ⌝ }
 {
+    let mut keys = [0u64; SimplexList::LIMIT];
+    let mut first = [0u16; BUCKETS];
+    let mut next = [0u16; SimplexList::LIMIT];
+    let m = lookup::index(lower, &mut keys, &mut first, &mut next);
     let n = least(rows.count, SimplexList::LIMIT);
-    let m = least(lower.count, SimplexList::LIMIT);
     clear(cur);
     let mut i = 0;
     while i < n {
         if marks.on[i] {
             let s = rows.items[i];
-            add_boundary(cur, lower, s);
+            add_boundary(cur, &keys, &first, &next, m, s);
         }
         i += 1;
     }
@@ -153,6 +172,7 @@ fn prepare(
 ) -> usize
     requires { ⌜ length (simplicesOf rows) ≤ 8 * h ⌝ }
     requires { ⌜ length (simplicesOf cols) ≤ 8 * h ⌝ }
+    requires { ⌜ Over (simplicesOf rows) (simplicesOf cols) ⌝ }
     requires { ⌜ roomOf h ≤ length (now work) ⌝ }
     requires { ⌜ length (now cur) ≡ 2 * h ⌝ }
     ensures { λ m. ⌜ Prepared h (simplicesOf rows) (simplicesOf cols) marks m (now (work .exit)) (now (cur .exit)) ⌝ }
@@ -183,6 +203,8 @@ pub fn fill(
     requires { ⌜ length (simplicesOf lower) ≤ 8 * h ⌝ }
     requires { ⌜ length (simplicesOf rows) ≤ 8 * h ⌝ }
     requires { ⌜ length (simplicesOf cols) ≤ 8 * h ⌝ }
+    requires { ⌜ Over (simplicesOf lower) (simplicesOf rows) ⌝ }
+    requires { ⌜ Over (simplicesOf rows) (simplicesOf cols) ⌝ }
     requires { ⌜ roomOf h ≤ length (now work) ⌝ }
     requires { ⌜ length (now cur) ≡ 2 * h ⌝ }
     ensures { λ r. ⌜ FillTold (simplicesOf lower) (simplicesOf rows) (simplicesOf cols) marks r (chainV h (now (cur .exit))) ⌝ }
@@ -210,6 +232,7 @@ pub fn class(
 )
     requires { ⌜ length (simplicesOf rows) ≤ 8 * h ⌝ }
     requires { ⌜ length (simplicesOf cols) ≤ 8 * h ⌝ }
+    requires { ⌜ Over (simplicesOf rows) (simplicesOf cols) ⌝ }
     requires { ⌜ roomOf h ≤ length (now work) ⌝ }
     requires { ⌜ length (now cur) ≡ 2 * h ⌝ }
     ensures { λ _. ⌜ ClassTold (simplicesOf rows) (simplicesOf cols) marks (chainR h (now (cur .exit))) ⌝ }

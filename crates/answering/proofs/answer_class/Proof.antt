@@ -2,12 +2,13 @@
 use Prim.Native.Nat.{_+_, _≤_}
 use native.Mathlib.Omega.{arith}
 use native.Mathlib.Nat.{le-trans}
-use mathlib.Core.Path.{refl, sym, ap, subst}
+use mathlib.Core.Path.{refl, sym, subst, subst₂}
 use lib.ListN.{length}
 use Rattle.columns.specs.Slot.{halfR}
 use Rattle.complexes.specs.Meaning.{complexOf}
+use Rattle.solver.specs.Columns.{Over}
 use Rattle.solver.specs.Room.{room-small}
-use Rattle.answering.proofs.Lists.{few-simplices, members-room}
+use Rattle.answering.proofs.Lists.{few-simplices, over-list, members-room}
 use Rattle.answering.proofs.Told.{answers-class}
 use borrow.Author.Needs.{needs}
 use Rattle.answering.proofs.answer_class.Statement.{statement}
@@ -27,10 +28,18 @@ slice-aggregate-class c = search needs
 
 class-requires : tie.Need-class-requires
 class-requires c κs =
-    let a = c .before .before .before .before .before .before .args in
-    let X = complexOf (a .complex) in
-    let sound = c .before .before .before .before .before .before .pre .0 in
-    (subst (λ m. m ≤ 512) (ap length (sym (c .before .before .before .list-of .ensures))) (few-simplices X sound (a .dim)), (subst (λ m. m ≤ 512) (ap length (sym (c .before .before .list-of2 .ensures))) (few-simplices X sound (a .dim + 1)), (omega (arith, room-small), refl)))
+    let start = c .before .before .before .before .before .before in
+    let X = complexOf (start .args .complex) in
+    let dim = start .args .dim in
+    let sound = start .pre .0 in
+    let row = sym (c .before .before .before .list-of .ensures) in
+    let col = sym (c .before .before .list-of2 .ensures) in (
+      subst (λ l. length l ≤ 512) row (few-simplices X sound dim),
+      (
+        subst (λ l. length l ≤ 512) col (few-simplices X sound (dim + 1)),
+        (subst₂ Over row col (over-list X sound dim), (omega (arith, room-small), refl)),
+      ),
+    )
 
 sub-put-chain : tie.Need-sub-put-chain
 sub-put-chain c = search needs

@@ -1,15 +1,16 @@
 -- `answering::answer_fill` meets its contract: what the solver told is the answer, and its record is put out.
 use Prim.Native.Nat.{_+_, _≤_}
 use native.Mathlib.Omega.{arith}
-use mathlib.Core.Path.{refl, sym, ap, subst}
+use mathlib.Core.Path.{refl, sym, subst, subst₂}
 use lib.ListN.{length}
 use native.Mathlib.Nat.{le-trans}
 use Rattle.chains.specs.Chain.{empty}
 use Rattle.columns.specs.Slot.{halfV}
 use Rattle.complexes.specs.Meaning.{complexOf}
+use Rattle.solver.specs.Columns.{Over}
 use Rattle.solver.specs.Room.{room-small}
 use Rattle.solver.specs.Solved.{fill-says}
-use Rattle.answering.proofs.Lists.{few-simplices, few-lower, members-room}
+use Rattle.answering.proofs.Lists.{few-simplices, few-lower, over-list, over-lower, members-room}
 use Rattle.answering.proofs.Told.{answers-open, answers-unfilled, answers-patch}
 use borrow.Author.Needs.{needs}
 use Rattle.answering.proofs.answer_fill.Statement.{statement}
@@ -32,10 +33,25 @@ slice-aggregate-fill c = search needs
 
 fill-requires : tie.Need-fill-requires
 fill-requires c κs =
-    let a = c .before .before .before .before .before .before .before .args in
-    let X = complexOf (a .complex) in
-    let sound = c .before .before .before .before .before .before .before .pre .0 in
-    (subst (λ m. m ≤ 512) (ap length (sym (c .before .before .before .before .lower-of .ensures))) (few-lower X sound (a .dim)), (subst (λ m. m ≤ 512) (ap length (sym (c .before .before .before .list-of .ensures))) (few-simplices X sound (a .dim)), (subst (λ m. m ≤ 512) (ap length (sym (c .before .before .list-of2 .ensures))) (few-simplices X sound (a .dim + 1)), (omega (arith, room-small), refl))))
+    let start = c .before .before .before .before .before .before .before in
+    let X = complexOf (start .args .complex) in
+    let dim = start .args .dim in
+    let sound = start .pre .0 in
+    let low = sym (c .before .before .before .before .lower-of .ensures) in
+    let row = sym (c .before .before .before .list-of .ensures) in
+    let col = sym (c .before .before .list-of2 .ensures) in (
+      subst (λ l. length l ≤ 512) low (few-lower X sound dim),
+      (
+        subst (λ l. length l ≤ 512) row (few-simplices X sound dim),
+        (
+          subst (λ l. length l ≤ 512) col (few-simplices X sound (dim + 1)),
+          (
+            subst₂ Over low row (over-lower X sound dim),
+            (subst₂ Over row col (over-list X sound dim), (omega (arith, room-small), refl)),
+          ),
+        ),
+      ),
+    )
 
 enum-told : tie.Need-enum-told
 enum-told c = search needs

@@ -1,143 +1,138 @@
--- `add_boundary` goes through the facets from the last vertex on, and looks each up in the rows.
+-- `add_boundary` goes through the facets from the last vertex on, and looks each up in the index of the rows.
 -- Assumes nothing.
-use Prim.Native.Nat.{_-_}
-use mathlib.Core.Path.{_≡_, refl, sym, ap, _∙_}
-use Rattle.solver.proofs.Whole.{vertex-boundary}
+use Prim.Native.Nat.{_-_, _<_}
+use mathlib.Core.Path.{_≡_, refl, ap}
 use native.Mathlib.Omega.{arith}
-use Rattle.columns.specs.Column.{flipped}
+use lib.ListN.{length}
 use Rattle.format.specs.Reading.{without}
-use Rattle.lists.specs.Meaning.{verticesOf, simplicesOf}
-use Rattle.lists.specs.Items.{length-mapped}
-use Rattle.lists.proofs.Search.{Looking, looking-start, looking-found, looking-on, looking-end}
-use Rattle.solver.proofs.Adding.{Adding, adding-start, adding-end, adding-none, adding-flip, adding-no-facets}
+use Rattle.lists.specs.Meaning.{verticesOf, rankOf}
+use Rattle.solver.specs.Columns.{RowsFor}
+use Rattle.solver.proofs.Adding.{Adding, adding-no-facets, adding-start, adding-none, rank-below, adding-higher, adding-lower, adding-end}
 use borrow.Author.Needs.{needs}
 use Rattle.solver.proofs.add_boundary.Statement.{statement}
 use Rattle.solver.proofs.add_boundary.Tie as tie
 
-abbrev Inv-loop2 : tie.InvT-loop2
-Inv-loop2 cur₀ s rows size n left facet i₀ cur i = (cur ≡ cur₀) × Looking (verticesOf facet) rows n i
-
-abbrev μ-loop2 : tie.MeasureT-loop2
-μ-loop2 cur₀ s rows size n left facet i₀ cur i = n - i
-
 abbrev Inv-loop : tie.InvT-loop
-Inv-loop cur₀ s rows size n left₀ cur left = Adding (simplicesOf rows) (verticesOf s) cur₀ cur left
+Inv-loop cur₀ keys first next n s size top₀ left₀ cur top left =
+    (k : RowsFor (verticesOf s) keys first next n) → Adding (k .rows) (verticesOf s) cur₀ cur left top
 
 abbrev μ-loop : tie.MeasureT-loop
-μ-loop cur₀ s rows size n left₀ cur left = left
+μ-loop cur₀ keys first next n s size top₀ left₀ cur top left = left
 
-size-requires : tie.Need-size-requires Inv-loop2 μ-loop2 Inv-loop μ-loop
+size-requires : tie.Need-size-requires Inv-loop μ-loop
 size-requires c κs = search needs
 
-returns : tie.Need-returns Inv-loop2 μ-loop2 Inv-loop μ-loop
-returns c =
-    let start = c .before .before .before in
-    adding-no-facets _ _ _ (vertex-boundary _ _ (start .good .1 .0) _ (omega (arith, c .if1 .taken, c .before .size .ensures .0)))
+returns : tie.Need-returns Inv-loop μ-loop
+returns c = λ k. adding-no-facets _ (k .over) (omega (arith, c .if1 .taken, c .before .size .ensures .0))
 
-least-requires : tie.Need-least-requires Inv-loop2 μ-loop2 Inv-loop μ-loop
-least-requires c κs = search needs
+loop-holds : tie.Need-loop-holds Inv-loop μ-loop
+loop-holds c = λ k. adding-start _ _ _ _ (c .before .size .ensures .0)
 
-loop-holds : tie.Need-loop-holds Inv-loop2 μ-loop2 Inv-loop μ-loop
-loop-holds c = adding-start _ _ _ _ (c .before .before .size .ensures .0)
+-- a facet that was looked up
+module _ (c : tie.After-find Inv-loop μ-loop) where
+  abbrev head : tie.At-loop Inv-loop μ-loop
+  head = c .before .before .before
 
--- what `facet` gives is the facet without the vertex at hand
-facet-is : (c : tie.After-facet Inv-loop2 μ-loop2 Inv-loop μ-loop)
-    → verticesOf (c .facet .result)
-    ≡ without (c .before .before .loop .left - 1) (verticesOf (c .before .before .before .before .before .before .before .args .s))
-facet-is c =
-    let small = c .before .before .before .before in
-    c .facet .ensures (omega (arith, small .if1 .left, small .before .size .ensures .0))
+  abbrev begin : tie.Start Inv-loop μ-loop
+  begin = head .before .before .before .before .before .before .before
 
-sub-left : tie.Need-sub-left Inv-loop2 μ-loop2 Inv-loop μ-loop
+  wide : 1 < length (verticesOf (begin .args .s))
+  wide = omega (arith, head .before .if1 .left, head .before .before .size .ensures .0)
+
+  facet-is : verticesOf (c .before .facet .result) ≡ without (head .loop .left - 1) (verticesOf (begin .args .s))
+  facet-is = c .before .facet .ensures wide
+
+sub-left : tie.Need-sub-left Inv-loop μ-loop
 sub-left c = search needs
 
-facet-requires : tie.Need-facet-requires Inv-loop2 μ-loop2 Inv-loop μ-loop
+facet-requires : tie.Need-facet-requires Inv-loop μ-loop
 facet-requires c κs = search needs
 
-loop2-holds : tie.Need-loop2-holds Inv-loop2 μ-loop2 Inv-loop μ-loop
-loop2-holds c = (refl, looking-start _ _ _ (search (needs, length-mapped)) (c .before .before .before .least .ensures))
+find-requires : tie.Need-find-requires Inv-loop μ-loop
+find-requires c κs = c .before .before .before .before .before .before .before .before .before .pre .indexed .chained
 
-loop-less : tie.Need-loop-less Inv-loop2 μ-loop2 Inv-loop μ-loop
-loop-less c = search needs
+enum-known-found : tie.Need-enum-known-found Inv-loop μ-loop
+enum-known-found c = search needs
 
-loop-again : tie.Need-loop-again Inv-loop2 μ-loop2 Inv-loop μ-loop
-loop-again c =
-    let head = c .before in
-    let facet = head .before in
-    let turn = facet .before in
-    adding-none _ _ _ (turn .before .loop .inv) (turn .loop-test .taken) (facet-is facet)
-    (looking-end _ _ _ _ (head .loop2 .inv .1) (c .loop2-test .left)) (head .loop2 .inv .0)
-
-mul-t : tie.Need-mul-t Inv-loop2 μ-loop2 Inv-loop μ-loop
-mul-t c = search needs
-
-element-copy-out-t : tie.Need-element-copy-out-t Inv-loop2 μ-loop2 Inv-loop μ-loop
-element-copy-out-t c = search needs
-
-same-requires : tie.Need-same-requires Inv-loop2 μ-loop2 Inv-loop μ-loop
-same-requires c κs = search needs
-
-flip-requires : tie.Need-flip-requires Inv-loop2 μ-loop2 Inv-loop μ-loop
+flip-requires : tie.Need-flip-requires Inv-loop μ-loop
 flip-requires c κs = search needs
 
-loop-less-2 : tie.Need-loop-less-2 Inv-loop2 μ-loop2 Inv-loop μ-loop
+add-top : tie.Need-add-top Inv-loop μ-loop
+add-top c =
+    let found = c .before .before .before .before .before .before in
+    let looked = found .before .before in
+    let k = begin looked .pre in
+    record {
+      fits = omega (
+        arith,
+        k .indexed .keyed .count,
+        begin looked .fits,
+        rank-below (head looked .loop .inv k) (looked .before .before .loop-test .taken) (k .indexed .keyed) (k .over) (wide looked)
+            (facet-is looked) (looked .find .ensures) (ap rankOf (found .found .given .1)),
+      );
+    }
+
+loop-less : tie.Need-loop-less Inv-loop μ-loop
+loop-less c = search needs
+
+loop-again : tie.Need-loop-again Inv-loop μ-loop
+loop-again c = λ k.
+    let flipped = c .before .before .before in
+    let found = flipped .before .before .before in
+    let looked = found .before .before in
+    adding-higher (head looked .loop .inv k) (looked .before .before .loop-test .taken) (k .indexed .keyed) (k .over) (wide looked)
+    (facet-is looked) (looked .find .ensures) (ap rankOf (found .found .given .1)) (flipped .flip .ensures) (c .if2 .taken)
+
+loop-less-2 : tie.Need-loop-less-2 Inv-loop μ-loop
 loop-less-2 c = search needs
 
-loop-again-2 : tie.Need-loop-again-2 Inv-loop2 μ-loop2 Inv-loop μ-loop
-loop-again-2 c =
-    let done = c .before .before in
-    let found = done .before .before in
-    let test = found .before .before .before in
-    let head = test .before in
-    let facet = head .before in
-    let turn = facet .before in
-    adding-flip _ _ _ (turn .before .loop .inv) (turn .loop-test .taken) (facet-is facet)
-    (looking-found _ _ _ _ (head .loop2 .inv .1) (test .loop2-test .taken) (sym (found .if2 .taken) ∙ found .before .same .ensures))
-    (done .flip .ensures ∙ ap (λ x. flipped x (head .loop2 .i)) (head .loop2 .inv .0))
+loop-again-2 : tie.Need-loop-again-2 Inv-loop μ-loop
+loop-again-2 c = λ k.
+    let flipped = c .before .before .before in
+    let found = flipped .before .before .before in
+    let looked = found .before .before in
+    adding-lower (head looked .loop .inv k) (looked .before .before .loop-test .taken) (k .indexed .keyed) (k .over) (wide looked)
+    (facet-is looked) (looked .find .ensures) (ap rankOf (found .found .given .1)) (flipped .flip .ensures) (c .if2 .left)
 
-add-i : tie.Need-add-i Inv-loop2 μ-loop2 Inv-loop μ-loop
-add-i c = search needs
+enum-told : tie.Need-enum-told Inv-loop μ-loop
+enum-told c = search needs
 
-loop2-less : tie.Need-loop2-less Inv-loop2 μ-loop2 Inv-loop μ-loop
-loop2-less c = search needs
+loop-less-3 : tie.Need-loop-less-3 Inv-loop μ-loop
+loop-less-3 c = search needs
 
-loop2-again : tie.Need-loop2-again Inv-loop2 μ-loop2 Inv-loop μ-loop
-loop2-again c =
-    let t = c .before .before .before in
-    let head = t .before in
-    (head .loop2 .inv .0, looking-on _ _ _ _ (head .loop2 .inv .1) (t .loop2-test .taken) (sym (c .if2 .left) ∙ c .before .same .ensures))
+loop-again-3 : tie.Need-loop-again-3 Inv-loop μ-loop
+loop-again-3 c = λ k.
+    let looked = c .before .before in
+    adding-none (head looked .loop .inv k) (looked .before .before .loop-test .taken) (k .indexed .keyed) (k .over) (wide looked)
+    (facet-is looked) (looked .find .ensures) (ap rankOf (c .enum-told .given .1)) refl
 
-same-length : tie.Need-same-length Inv-loop2 μ-loop2 Inv-loop μ-loop
-same-length c = search needs
+same-length : tie.Need-same-length Inv-loop μ-loop
+same-length c = c .before .loop .inv (c .before .before .before .before .before .before .before .before .pre) .long
 
-returns-2 : tie.Need-returns-2 Inv-loop2 μ-loop2 Inv-loop μ-loop
-returns-2 c = adding-end _ _ _ (c .before .loop .inv) (c .loop-test .left)
+returns-2 : tie.Need-returns-2 Inv-loop μ-loop
+returns-2 c = λ k. adding-end (c .before .loop .inv k) (c .loop-test .left)
 
 pub add-boundary-spec : {M : Type 1} → statement M
 add-boundary-spec =
     tie.close
     (tie.spec
-    Inv-loop2
-    μ-loop2
     Inv-loop
     μ-loop
     size-requires
     returns
-    least-requires
     loop-holds
     sub-left
     facet-requires
-    loop2-holds
+    find-requires
+    enum-known-found
+    flip-requires
+    add-top
     loop-less
     loop-again
-    mul-t
-    element-copy-out-t
-    same-requires
-    flip-requires
     loop-less-2
     loop-again-2
-    add-i
-    loop2-less
-    loop2-again
+    enum-told
+    loop-less-3
+    loop-again-3
     same-length
     returns-2)

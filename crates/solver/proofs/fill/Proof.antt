@@ -1,5 +1,6 @@
 -- `fill` asks first whether the rim is closed, and only then what the slots make of the marked chain.
 -- Assumes nothing.
+use mathlib.Core.Path.{_∙_}
 use borrow.Author.Tests.{not-true, not-false}
 use Rattle.solver.proofs.Solving.{open-told, patch-told, none-told}
 use borrow.Author.Needs.{needs}
@@ -17,7 +18,11 @@ returns c =
     open-told _ _ (c .before .before .before .rim-closed .ensures) (not-true _ (c .if1 .taken))
 
 prepare-requires : tie.Need-prepare-requires
-prepare-requires c κs = search needs
+prepare-requires c κs =
+    let asked = c .before .before .before .before .before in
+    let known = asked .before .before .before .before .pre .1 in
+    let over = known .1 .1 .1 in
+    (known .0, (known .1 .0, (over .0, (over .1 .0, asked .rim-closed .kept .0 ∙ over .1 .1))))
 
 fill-in-requires : tie.Need-fill-in-requires
 fill-in-requires c κs = search needs

@@ -33,7 +33,7 @@ returns c =
     let marked = c .before .before in
     let loaded = marked .before .before .before .before .before .before in
     let start = loaded .before .before .before .before .before in
-    prepared _ _ _ _ (start .pre .0) (loaded .load .kept .1 .0 ∙ start .pre .1 .1 .1) (loaded .load .ensures) (marked .mark .ensures)
+    prepared _ _ _ _ (start .pre .0) (loaded .load .kept .1 .0 ∙ start .pre .1 .1 .1 .1) (loaded .load .ensures) (marked .mark .ensures)
 
 pub prepare-spec : {M : Type 1} → statement M
 prepare-spec = tie.close (tie.spec load-requires mark-requires same-length same-length-2 returns)
