@@ -3,6 +3,7 @@ use complexes::Complex;
 use complexes::Job;
 use heads::Head;
 use heads::HeadRead;
+use keys::BUCKETS;
 use lists::Marks;
 use lists::SimplexList;
 use lists::Verdict;
@@ -122,7 +123,7 @@ fn after_triangles(
     ensures { λ r. ⌜ Outcome (afterTriangles (now (job .entry)) (headOf head) at (simplicesOf edges) (simplicesOf triangles)) r ⌝ }
 {
     let mut new_keys = [0u64; SimplexList::LIMIT];
-    let mut new_first = [0u16; 1021];
+    let mut new_first = [0u16; BUCKETS];
     let mut new_next = [0u16; SimplexList::LIMIT];
     let read = stages::read_list(
         job,
@@ -171,7 +172,7 @@ fn after_edges(
     ensures { λ r. ⌜ Outcome (afterEdges (now (job .entry)) (headOf head) at (simplicesOf edges)) r ⌝ }
 {
     let mut new_keys = [0u64; SimplexList::LIMIT];
-    let mut new_first = [0u16; 1021];
+    let mut new_first = [0u16; BUCKETS];
     let mut new_next = [0u16; SimplexList::LIMIT];
     let read = stages::read_list(
         job,
@@ -216,10 +217,10 @@ fn after_head(job: &[u8], head: Head, at: usize) -> JobRead
     ensures { λ r. ⌜ Outcome (afterHead small (now (job .entry)) at (headOf head)) r ⌝ }
 {
     let no_keys = [0u64; 1];
-    let no_first = [0u16; 1021];
+    let no_first = [0u16; BUCKETS];
     let no_next = [0u16; 1];
     let mut new_keys = [0u64; SimplexList::LIMIT];
-    let mut new_first = [0u16; 1021];
+    let mut new_first = [0u16; BUCKETS];
     let mut new_next = [0u16; SimplexList::LIMIT];
     let read = stages::read_list(
         job,

@@ -1,4 +1,4 @@
-// Simplices, the lists of a complex, and the one look-up of a simplex in its list.
+// Simplices, the lists of a complex, chains as marks by rank, and the verdicts on a job.
 ghost use mathlib.Core.Path.{_≡_};
 ghost use Prim.Native.Nat.{_+_, _-_, _≤_, _<_, min};
 ghost use mathlib.Core.Bool.{false};
@@ -26,7 +26,7 @@ pub struct Marks {
     pub on: [bool; SimplexList::LIMIT],
 }
 
-// Where a simplex stands in a list.
+// Where a simplex stands in a list, as the look-up answers (crate `lookup`).
 pub enum Found {
     At(usize),
     Missing,
@@ -258,22 +258,6 @@ pub fn same(a: Simplex, b: Simplex) -> bool
     a.vertices[3] == b.vertices[3]
 }
 
-// The rank of a simplex in a list: the one look-up that all callers share.
-pub fn find(list: SimplexList, s: Simplex) -> Found
-    ensures { λ r. ⌜ rankOf r ≡ format.rank (verticesOf s) (simplicesOf list) ⌝ }
-{
-    let n = least(list.count, SimplexList::LIMIT);
-    let mut i = 0;
-    while i < n {
-        let t = list.items[i];
-        if same(s, t) {
-            return Found::At(i);
-        }
-        i += 1;
-    }
-    Found::Missing
-}
-
 // The vertex at a place of the simplex that `width` bytes from `at` on spell, 0 past the last.
 fn vertex_at(p: &[u8], at: usize, width: usize, place: usize) -> u16
     ensures { λ r. ⌜ r ≡ getD (take width (drop at (now (p .entry)))) place 0 ⌝ }
@@ -304,19 +288,4 @@ pub fn simplex_at(p: &[u8], at: usize, width: usize) -> Simplex
         ],
         dim: (width - 1) as u16,
     }
-}
-
-// Whether every facet of a simplex is in a list.
-pub fn facets_listed(faces: SimplexList, s: Simplex) -> bool
-    ensures { λ r. ⌜ (1 < length (verticesOf s) → r ≡ format.allListed (format.facets (verticesOf s)) (simplicesOf faces)) ⌝ }
-{
-    let mut left = s.size();
-    while 0 < left {
-        left -= 1;
-        let found = find(faces, s.facet(left));
-        if let Found::Missing = found {
-            return false;
-        }
-    }
-    true
 }

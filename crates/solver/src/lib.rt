@@ -14,6 +14,7 @@ use columns::Highest;
 use columns::clear;
 use columns::flip;
 use columns::next_down;
+use keys::BUCKETS;
 use lists::Found;
 use lists::Marks;
 use lists::Simplex;
@@ -24,9 +25,6 @@ use slots::class_in;
 use slots::fill_in;
 use slots::insert_column;
 use slots::start;
-
-// The number of buckets of an index (crate `keys`).
-const BUCKETS: usize = 1021;
 
 // The vertices 0 to v - 1 as a list: "vertices rank by number".
 pub fn vertices(v: usize) -> SimplexList

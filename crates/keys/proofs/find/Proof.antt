@@ -14,6 +14,9 @@ Inv-loop keys first next n key bucket i₀ i = Hunt keys first next n key i
 abbrev μ-loop : tie.MeasureT-loop
 μ-loop keys first next n key bucket i₀ i = i
 
+rem-bucket : tie.Need-rem-bucket Inv-loop μ-loop
+rem-bucket c = search needs
+
 mul-i : tie.Need-mul-i Inv-loop μ-loop
 mul-i c = search needs
 
@@ -65,6 +68,7 @@ find-spec =
     (tie.spec
     Inv-loop
     μ-loop
+    rem-bucket
     mul-i
     shared-slice-read-i
     cast-i

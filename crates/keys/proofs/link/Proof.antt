@@ -7,6 +7,9 @@ use borrow.Author.Needs.{needs}
 use Rattle.keys.proofs.link.Statement.{statement}
 use Rattle.keys.proofs.link.Tie as tie
 
+rem-bucket : tie.Need-rem-bucket
+rem-bucket c = search needs
+
 mul-keys : tie.Need-mul-keys
 mul-keys c = search needs
 
@@ -53,6 +56,7 @@ pub link-spec : {M : Type 1} → statement M
 link-spec =
     tie.close
     (tie.spec
+    rem-bucket
     mul-keys
     slice-write-keys
     mul-next
