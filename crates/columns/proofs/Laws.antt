@@ -13,7 +13,7 @@ use lib.Seq.{paste, paste-zero, paste-suc}
 use lib.Pow.{pow-lt}
 use lib.Bits.{bitXor}
 use borrow.Author.Fill.{fill-more}
-use Rattle.columns.specs.Column.{bit, bitAt, chainOf, xorBytes}
+use Rattle.columns.specs.Column.{bit, bitAt, chainOf, xorBytes, clearedFront}
 use Rattle.columns.specs.ColumnLaws.{bit-zero}
 use Rattle.columns.specs.SlotLaws.{xor-nil}
 use Rattle.columns.specs.Search.{highestBelow, highest-held, highest-not-held, highest-skip}
@@ -90,6 +90,11 @@ cleared-all {d} {x} {i} a l =
     let all : i ≡ length d = omega arith in
     a .zeros ∙ ap (λ (t : List ℕ). replicate i 0 ++ t) (drop-of-length-le d {i = i} (omega arith))
     ∙ append-nil (replicate i 0) ∙ ap (λ (k : ℕ). replicate k 0) all
+
+pub cleared-front : {d x : List ℕ} {n i : ℕ} (k : ℕ) → Cleared d x i → n ≡ min k (length d) → n ≤ i → i ≤ n → x ≡ clearedFront k d
+cleared-front {d} {x} {n} {i} k a e l within =
+    let all : i ≡ min k (length d) = omega (arith, e) in
+    a .zeros ∙ ap (λ (j : ℕ). replicate j 0 ++ drop j d) all
 
 -- ---- the loop that stores: at byte j, the first j of the n bytes of s stand in d from place at on
 

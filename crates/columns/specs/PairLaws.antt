@@ -1,10 +1,10 @@
 -- Laws of a pair of columns, R and V, in one list of bytes: which bit of the whole is which rank of a half, what a
 -- flipped bit does to the halves, and that zeros hold nothing. They are what building a column in hand needs.
-use Prim.Native.Nat.{ℕ, zero, suc, _+_, _*_, _/_, _%_, _≤_, _<_}
+use Prim.Native.Nat.{ℕ, zero, suc, _+_, _*_, _/_, _%_, _≤_, _<_, min}
 use mathlib.Core.Path.{_≡_, refl, sym, ap, ap₂, _∙_, fun-ext}
 use mathlib.Core.Bool.{Bool, false}
-use mathlib.Core.List.{List, _∷_}
-use native.Mathlib.Nat.{zero-add}
+use mathlib.Core.List.{List, _∷_, _++_}
+use native.Mathlib.Nat.{zero-add, suc-mul, mul-le-mul-right}
 use native.Mathlib.Omega.{arith}
 use native.Mathlib.Decide.{decLt, ℕ-discrete}
 use lib.Dec.{eqb}
@@ -13,7 +13,7 @@ use lib.Seq.{getD-take, getD-drop}
 use borrow.Author.Tests.{eq-eqb, ne-eqb}
 use Rattle.chains.specs.Chain.{Chain, differ, _⊕_, empty, unit}
 use Rattle.chains.specs.Sum.{differ-false}
-use Rattle.columns.specs.Column.{bit, bitAt, chainOf, flipped}
+use Rattle.columns.specs.Column.{bit, bitAt, chainOf, flipped, clearedFront}
 use Rattle.columns.specs.ColumnLaws.{chainOf-zeros, chainOf-under, chainOf-flipped}
 use Rattle.columns.specs.Slot.{halfR, halfV, chainR, chainV, slot, occupiedAt}
 use Rattle.columns.specs.SlotLaws.{bit-halfR}
@@ -131,3 +131,17 @@ slotV-zeros h n r = ap (chainV h) (slot-zeros h n r .1) ∙ halfV-zeros h (slot-
 
 pub vacant-zeros : (h n r : ℕ) → occupiedAt h (replicate n 0) r ≡ false
 vacant-zeros h n r = ap (λ (c : Chain). c r) (slotR-zeros h n r)
+
+-- in memory whose front is cleared, so is each slot of the front
+front-zeros : (j i k : ℕ) (rest : List ℕ) → j + i ≤ k → take i (drop j (replicate k 0 ++ rest)) ≡ replicate i 0
+front-zeros zero zero k rest h = refl
+front-zeros zero (suc i) zero rest h = absurd (omega arith)
+front-zeros zero (suc i) (suc k) rest h = ap (_∷_ 0) (front-zeros zero i k rest (omega arith))
+front-zeros (suc j) i zero rest h = absurd (omega arith)
+front-zeros (suc j) i (suc k) rest h = front-zeros j i k rest (omega arith)
+
+pub slot-front : (h m r : ℕ) (work : List ℕ) → r < m → m * (2 * h) ≤ length work
+    → slot h (clearedFront (m * (2 * h)) work) r ≡ replicate (2 * h) 0
+unfolding slot
+slot-front h m r work lt room =
+    front-zeros (r * (2 * h)) (2 * h) (min (m * (2 * h)) (length work)) _ (omega (arith, mul-le-mul-right (2 * h) lt, suc-mul r (2 * h)))

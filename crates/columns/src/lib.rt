@@ -3,7 +3,7 @@
 ghost use mathlib.Core.Path.{_≡_};
 ghost use Prim.Native.Nat.{_+_, _*_, _≤_, _<_, min};
 ghost use lib.ListN.{length, getD, replicate};
-ghost use Rattle.columns.specs.Column.{bitAt, chainOf, xorBytes, flipped};
+ghost use Rattle.columns.specs.Column.{bitAt, chainOf, xorBytes, flipped, clearedFront};
 ghost use Rattle.columns.specs.Slot.{roomOf, slot, occupiedAt, storeSlot};
 ghost use Rattle.columns.specs.Search.{highestBelow};
 ghost use Rattle.columns.specs.Reduce.{redBytes, Settles, Inserts};
@@ -57,6 +57,18 @@ pub fn clear(bytes: &mut [u8])
 {
     let mut i = 0;
     while i < bytes.len() {
+        bytes[i] = 0;
+        i += 1;
+    }
+}
+
+// Makes the first n bytes zero, or all of them where there are fewer.
+pub fn clear_front(bytes: &mut [u8], n: usize)
+    ensures { λ _. ⌜ now (bytes .exit) ≡ clearedFront n (now (bytes .entry)) ⌝ }
+{
+    let end = shorter(n, bytes.len());
+    let mut i = 0;
+    while i < end {
         bytes[i] = 0;
         i += 1;
     }

@@ -6,7 +6,7 @@ use mathlib.Core.Bool.{Bool, true, false, not}
 use mathlib.Core.Logic.{_⊎_, inl, inr}
 use mathlib.Core.List.{List, []}
 use native.Mathlib.Omega.{arith}
-use lib.ListN.{length, replicate, length-replicate}
+use lib.ListN.{length}
 use lib.Dec.{eqb, leb, ltb}
 use borrow.Author.Tests.{lt-ltb, le-ltb, eq-eqb, ne-eqb}
 use Rattle.format.specs.Numbers.{small, tooLong, shape, badHead, headKind, edgesKind, trianglesKind, tetrahedraKind}
@@ -26,7 +26,7 @@ use Rattle.heads.specs.declared.Head.{Head}
 use Rattle.heads.specs.declared.HeadRead.{HeadRead}
 use Rattle.heads.specs.declared.HeadRead.the-variants.{Sound}
 use Rattle.heads.specs.Meaning.{headOf, headReading, HeadKnown}
-use Rattle.lookup.specs.Indexed.{Indexed, Blank}
+use Rattle.lookup.specs.Indexed.{Indexed}
 use Rattle.lookup.specs.IndexLaws.{sound-proper, proper-none}
 use Rattle.reading_lists.specs.Items.{FacesIn}
 use Rattle.stages.specs.Meaning.{listRead}
@@ -78,14 +78,6 @@ faces-in width l known indexed = record { proper = sound-proper (known .sound); 
 -- no list lies below the edges
 pub no-faces : (keys : List ℕ) → FacesIn 2 [] keys 0
 no-faces keys = record { proper = proper-none 1; keyed = record { count = refl; own = λ i lt. absurd (omega arith) } }
-
--- arrays of zeros hold no index yet
-pub zeros-blank : Blank (replicate 512 0) (replicate 1021 0) (replicate 512 0)
-zeros-blank = record {
-  keys-room = omega (arith, length-replicate {A = ℕ} 512 0);
-  next-room = omega (arith, length-replicate {A = ℕ} 512 0);
-  none = refl;
-}
 
 -- THE STAGES of the definition, one behind the other.
 module _ (b : List ℕ) (at : ℕ) (h : reader.Head) where

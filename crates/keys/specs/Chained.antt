@@ -21,7 +21,7 @@ lastBelow p l zero = zero
 lastBelow p l (suc n) = pick (p (getD l n 0)) (suc n) (lastBelow p l n)
 
 abbrev pub buckets : ℕ
-buckets = 1021
+buckets = 1019
 
 abbrev pub inBucket : ℕ → ℕ → Bool
 inBucket b k = eqb (k % buckets) b

@@ -5,8 +5,9 @@ ghost use lib.Dec.{eqb};
 ghost use lib.ListN.{length};
 ghost use Rattle.keys.specs.Chained.{Chained, Linked, lastBelow};
 
-// How many buckets the keys are spread over: a prime, twice as many as a list has simplices.
-pub const BUCKETS: usize = 1021;
+// How many buckets the keys are spread over: a prime, about twice as many as a list has simplices. With it few edges and
+// triangles of a mesh share a bucket.
+pub const BUCKETS: usize = 1019;
 
 // One more than the place of a key among the first n, 0 where it is not there.
 pub fn find(keys: &[u64], first: &[u16], next: &[u16], n: usize, key: u64) -> usize

@@ -8,7 +8,7 @@ use native.Mathlib.Omega.{arith}
 use native.Mathlib.Numerals.{add-one}
 use native.Mathlib.Decide.{ℕ-discrete}
 use lib.Dec.{eqb}
-use lib.ListN.{length, take, getD, set, replicate, length-append, length-set, List·getD-append}
+use lib.ListN.{length, take, getD, set, replicate, length-append, length-set, length-replicate, List·getD-append}
 use lib.Seq.{getD-set-same, getD-set-other, getD-append-seam, take-suc, take-all}
 use borrow.Author.Tests.{eq-eqb, eqb-true}
 use Rattle.format.specs.Simplex.{Simplex, Rank, ranked, unlisted, rank, listed, allListed, facets, same}
@@ -20,7 +20,7 @@ use Rattle.format.specs.Lookup.{first-ranked, stands-listed}
 use Rattle.format.specs.Sound.{SoundList, copies, copies-append, unlisted-copies, one-place}
 use Rattle.keys.specs.Chained.{Chained, Linked, lastBelow, buckets, last-within, last-passes, last-none, chained-none}
 use Rattle.keys.specs.Number.{digit, number, Digits, number-same, number-four, digits-four}
-use Rattle.lookup.specs.Indexed.{Proper, NumberOf, Keyed, Indexed, Entered}
+use Rattle.lookup.specs.Indexed.{Proper, NumberOf, Keyed, Indexed, Blank, Entered}
 
 -- A simplex's number, from its four places.
 pub number-told : (s : Simplex) (a b e f : ℕ) → length s ≤ 4 → a ≡ getD s 0 0 → b ≡ getD s 1 0 → e ≡ getD s 2 0 → f ≡ getD s 3 0
@@ -102,6 +102,14 @@ pub sound-proper : {width v : ℕ} {faces l : List Simplex} → SoundList width 
 sound-proper {l = l} sound = record {
   wide = λ i lt. sound .wide (getD l i []) (stands-listed (getD l i []) l i (record { below = lt; here = refl }));
   once = sound .once;
+}
+
+-- arrays of zeros hold no index yet
+pub zeros-blank : Blank (replicate 512 0) (replicate buckets 0) (replicate 512 0)
+zeros-blank = record {
+  keys-room = omega (arith, length-replicate {A = ℕ} 512 0);
+  next-room = omega (arith, length-replicate {A = ℕ} 512 0);
+  none = refl;
 }
 
 -- INDEXES GROW with their lists.

@@ -2,13 +2,13 @@
 // (crate `keys`), so that neither a list is gone through nor copied.
 ghost use mathlib.Core.Path.{_≡_};
 ghost use mathlib.Core.List.{List};
-ghost use Prim.Native.Nat.{ℕ, suc, _≤_, _<_};
-ghost use lib.ListN.{length, replicate};
+ghost use Prim.Native.Nat.{ℕ, suc, _<_};
+ghost use lib.ListN.{length};
 ghost use Rattle.format.specs.Simplex.{rank, facets, allListed};
 ghost use Rattle.format.specs.Simplex as format;
 ghost use Rattle.lists.specs.Meaning.{verticesOf, simplicesOf, rankOf};
 ghost use Rattle.keys.specs.Chained.{Chained};
-ghost use Rattle.lookup.specs.Indexed.{NumberOf, Keyed, Proper, Entered, Indexed};
+ghost use Rattle.lookup.specs.Indexed.{NumberOf, Keyed, Proper, Blank, Entered, Indexed};
 use lists::Found;
 use lists::Simplex;
 use lists::SimplexList;
@@ -48,8 +48,7 @@ pub fn enter(keys: &mut [u64], first: &mut [u16], next: &mut [u16], n: usize, s:
 
 // Enters a whole list, and says how many simplices it has.
 pub fn index(list: SimplexList, keys: &mut [u64], first: &mut [u16], next: &mut [u16]) -> usize
-    requires { ⌜ (512 ≤ length (now keys)) × (512 ≤ length (now next)) ⌝ }
-    requires { ⌜ now first ≡ replicate 1021 0 ⌝ }
+    requires { ⌜ Blank (now keys) (now first) (now next) ⌝ }
     ensures { λ n. ⌜ Indexed (simplicesOf list) (now (keys .exit)) (now (first .exit)) (now (next .exit)) n ⌝ }
 {
     let n = lists::least(list.count, SimplexList::LIMIT);

@@ -1,17 +1,19 @@
 -- Why the calls do so: each row of the reduction is a turn of the loop that crate `echelon` speaks of, so a reduction
 -- that is through, or that is stuck, is one of its endings.
-use Prim.Native.Nat.{ℕ, suc, _*_, _≤_, _<_}
+use Prim.Native.Nat.{ℕ, zero, suc, _*_, _≤_, _<_}
 use mathlib.Core.Path.{_≡_, refl, sym, _∙_, ap, subst, subst₂}
 use mathlib.Core.List.{List}
+use native.Mathlib.Nat.{mul-le-mul-right}
 use native.Mathlib.Omega.{arith}
-use lib.ListN.{length, replicate}
+use lib.ListN.{length}
 use Rattle.chains.specs.Chain.{Chain, empty, unit, Under, SmallestInClass}
 use Rattle.echelon.specs.Loops.{echelon-start, Reducing, reducing-start, reducing-skip, reducing-add}
 use Rattle.echelon.specs.Loops.{Put, insert-dropped, insert-kept, fill-found, fill-none}
 use Rattle.echelon.specs.Loops.{Classing, class-start, class-skip, class-vacant, class-add, class-done}
 use Rattle.columns.specs.Slot.{roomOf, chainR, chainV, slot, storeSlot}
 use Rattle.columns.specs.SlotLaws.{slot-stored, slot-kept}
-use Rattle.columns.specs.PairLaws.{slotR-zeros, slotV-zeros}
+use Rattle.columns.specs.Column.{clearedFront}
+use Rattle.columns.specs.PairLaws.{slot-front, halfR-zeros, halfV-zeros}
 use Rattle.columns.specs.Reduce.{redBytes, Settles, Inserts, storedAt, slotRows, Ends}
 use Rattle.columns.specs.ReduceLaws.{inserts-from, length-settled, settled-at}
 use Rattle.columns.specs.ReduceChains.{settle-chains, red-chains}
@@ -26,11 +28,29 @@ abbrev pub filledAt : Highest → Filled
 filledAt (At r) = filled.None
 filledAt Nothing = filled.Found
 
+-- a slot, and the slots of m rows, are no longer than all slots
+pub slot-fits : (h : ℕ) → 2 * h ≤ roomOf h
+unfolding roomOf
+slot-fits zero = omega arith
+slot-fits (suc k) = omega (arith, mul-le-mul-right {m = 1} {n = 8 * suc k} (2 * suc k) (omega arith))
+
+pub rows-fit : (h m : ℕ) → m ≤ 8 * h → m * (2 * h) ≤ roomOf h
+unfolding roomOf
+rows-fit h m low = mul-le-mul-right (2 * h) low
+
 -- Cleared memory holds nothing in any slot.
-pub starts : {h : ℕ} {work : List ℕ} (size : ℕ) → work ≡ replicate size 0 → Starts h work
-starts {h} {work} size e =
-    subst (Starts h) (sym e)
-    (record { vacant = λ D n m. echelon-start D n m _ _ (λ r l. slotR-zeros h size r) (λ r l. slotV-zeros h size r) })
+pub starts : {h : ℕ} (work : List ℕ) {after : List ℕ} (m : ℕ) → m ≤ 8 * h → roomOf h ≤ length work → after ≡ clearedFront (m * (2 * h)) work
+    → Starts h m after
+starts {h} work {after} m low room e =
+    subst (Starts h m) (sym e)
+    (record {
+      vacant = λ D n. echelon-start D n m _ _
+          (λ r l. ap (chainR h) (slot-front h m r work l fits) ∙ halfR-zeros h (2 * h))
+          (λ r l. ap (chainV h) (slot-front h m r work l fits) ∙ halfV-zeros h (2 * h));
+    })
+  where
+    fits : m * (2 * h) ≤ length work
+    fits = omega (arith, rows-fit h m low, room)
 
 -- A pair that is stored is put into its slot, in the table of either half.
 put-in : (half : List ℕ → Chain) (h m : ℕ) (work : List ℕ) → roomOf h ≤ length work → (r : ℕ) → r < 8 * h

@@ -14,9 +14,9 @@ use Rattle.slots.specs.declared.Filled.the-variants as filled
 abbrev pub SlotsIn : ℕ → List ℕ → (ℕ → Chain) → ℕ → ℕ → ℕ → Type 0
 SlotsIn h work D n m k = Echelon D n m k (slotRows h work) (slotColumns h work)
 
--- no column is in the slots
-pub record Starts (h : ℕ) (work : List ℕ) : Type 0 where
-  pub vacant : (D : ℕ → Chain) (n m : ℕ) → SlotsIn h work D n m 0
+-- no column is in the slots of m rows
+pub record Starts (h m : ℕ) (work : List ℕ) : Type 0 where
+  pub vacant : (D : ℕ → Chain) (n : ℕ) → SlotsIn h work D n m 0
 
 -- the pair in hand was column k: now it is in the slots too
 pub record PutsIn (h m : ℕ) (work cur after : List ℕ) : Type 0 where

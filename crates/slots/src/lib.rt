@@ -7,16 +7,18 @@ ghost use Rattle.chains.specs.Chain.{Under};
 ghost use Rattle.columns.specs.Slot.{roomOf, chainR};
 ghost use Rattle.slots.specs.Slots.{Starts, PutsIn, FillsIn, ClassesIn};
 use columns::Highest;
-use columns::clear;
+use columns::clear_front;
 use columns::insert;
 use columns::reduce;
 use columns::settle;
 
-// Makes every slot vacant.
-pub fn start(work: &mut [u8], h: usize)
-    ensures { λ _. ⌜ Starts h (now (work .exit)) ⌝ }
+// Makes the slots of the first `rows` rows vacant; no other is used.
+pub fn start(work: &mut [u8], h: usize, rows: usize)
+    requires { ⌜ rows ≤ 8 * h ⌝ }
+    requires { ⌜ roomOf h ≤ length (now work) ⌝ }
+    ensures { λ _. ⌜ Starts h rows (now (work .exit)) ⌝ }
 {
-    clear(work);
+    clear_front(work, rows * (2 * h));
 }
 
 // Puts the next column into the slots: the pair in hand is its boundary, which holds no row from `top`

@@ -25,9 +25,14 @@ pub record Loading (h : ℕ) (rows cols : List Simplex) (i : ℕ) (work₀ work 
   pub whole : length cur ≡ 2 * h
 
 module _ {h : ℕ} {rows cols : List Simplex} where
-  pub loading-start : {work₀ work cur : List ℕ} → Starts h work → length work ≡ length work₀ → length cur ≡ 2 * h
-      → Loading h rows cols 0 work₀ work cur
-  loading-start s long whole = record { slots = s .vacant _ _ _; within = omega arith; long = long; whole = whole }
+  pub loading-start : {m : ℕ} {work₀ work cur : List ℕ} → m ≡ length rows → Starts h m work → length work ≡ length work₀
+      → length cur ≡ 2 * h → Loading h rows cols 0 work₀ work cur
+  loading-start {work = work} e s long whole = record {
+    slots = subst (λ k. SlotsIn h work (columns rows cols) (length cols) k 0) e (s .vacant _ _);
+    within = omega arith;
+    long = long;
+    whole = whole;
+  }
 
   module _ {i : ℕ} {work₀ work cur : List ℕ} (a : Loading h rows cols i work₀ work cur) where
     -- the pair in hand, from zeros

@@ -95,7 +95,7 @@ pub fn load(
     let mut next = [0u16; SimplexList::LIMIT];
     let m = lookup::index(rows, &mut keys, &mut first, &mut next);
     let n = least(cols.count, SimplexList::LIMIT);
-    start(work, h);
+    start(work, h, m);
     let mut i = 0;
     while i < n {
         let rank = i;

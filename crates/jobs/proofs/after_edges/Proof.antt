@@ -7,7 +7,8 @@ use Rattle.format.specs.Reading.{readList}
 use Rattle.lists.specs.Meaning.{simplicesOf}
 use Rattle.heads.specs.Meaning.{headOf}
 use Rattle.stages.specs.Meaning.{listRead}
-use Rattle.jobs.proofs.Laws.{outcome-refused, outcome-same, list-refused, list-fine, list-known, faces-in, zeros-blank, triangles-refused, triangles-fine}
+use Rattle.lookup.specs.IndexLaws.{zeros-blank}
+use Rattle.jobs.proofs.Laws.{outcome-refused, outcome-same, list-refused, list-fine, list-known, faces-in, triangles-refused, triangles-fine}
 use borrow.Author.Needs.{needs}
 use Rattle.jobs.proofs.after_edges.Statement.{statement}
 use Rattle.jobs.proofs.after_edges.Tie as tie

@@ -8,7 +8,8 @@ use Rattle.format.specs.Reading.{readList}
 use Rattle.heads.specs.Meaning.{headOf}
 use Rattle.keys.specs.Chained.{chained-none}
 use Rattle.stages.specs.Meaning.{listRead}
-use Rattle.jobs.proofs.Laws.{outcome-refused, outcome-same, list-refused, list-fine, list-known, no-faces, zeros-blank, edges-refused, edges-fine}
+use Rattle.lookup.specs.IndexLaws.{zeros-blank}
+use Rattle.jobs.proofs.Laws.{outcome-refused, outcome-same, list-refused, list-fine, list-known, no-faces, edges-refused, edges-fine}
 use borrow.Author.Needs.{needs}
 use Rattle.jobs.proofs.after_head.Statement.{statement}
 use Rattle.jobs.proofs.after_head.Tie as tie

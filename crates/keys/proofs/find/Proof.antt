@@ -4,6 +4,7 @@ use Prim.Native.Nat.{_-_, _%_}
 use mathlib.Core.Path.{refl}
 use native.Mathlib.Omega.{arith}
 use borrow.Author.Needs.{needs}
+use Rattle.keys.specs.Chained.{buckets}
 use Rattle.keys.proofs.Hunt.{Hunt, hunt-start, hunt-found, hunt-on, hunt-falls, hunt-end}
 use Rattle.keys.proofs.find.Statement.{statement}
 use Rattle.keys.proofs.find.Tie as tie
@@ -24,7 +25,7 @@ shared-slice-read-i : tie.Need-shared-slice-read-i Inv-loop μ-loop
 shared-slice-read-i c = search needs
 
 cast-i : tie.Need-cast-i Inv-loop μ-loop
-cast-i c = omega (arith, c .shared-slice-known .given (c .before .args .key % 1021))
+cast-i c = omega (arith, c .shared-slice-known .given (c .before .args .key % buckets))
 
 loop-holds : tie.Need-loop-holds Inv-loop μ-loop
 loop-holds c = hunt-start (c .before .pre) refl

@@ -22,7 +22,7 @@ least-requires c κs = search needs
 loop-holds : tie.Need-loop-holds Inv-loop μ-loop
 loop-holds c =
     let start = c .before .before .before .before in
-    indexing-start (simplicesOf (start .args .t1)) _ (counted _ _ (search (needs, length-mapped)) (c .least .ensures)) (start .pre .1)
+    indexing-start (simplicesOf (start .args .t1)) _ (counted _ _ (search (needs, length-mapped)) (c .least .ensures)) (start .pre .none)
 
 mul-enter : tie.Need-mul-enter Inv-loop μ-loop
 mul-enter c = search needs
@@ -37,7 +37,7 @@ enter-requires c κs =
     let start = turn .before .before .before .before .before .before in
     let below : turn .before .loop .i < 512 = omega (arith, turn .loop-test .taken, turn .before .before .least .ensures) in (
       now .entered .chained,
-      (omega (arith, now .keys-long, start .pre .0), omega (arith, now .next-long, start .pre .0), omega (arith, below)),
+      (omega (arith, now .keys-long, start .pre .keys-room), omega (arith, now .next-long, start .pre .next-room), omega (arith, below)),
     )
 
 add-i : tie.Need-add-i Inv-loop μ-loop

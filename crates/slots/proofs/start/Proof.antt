@@ -1,13 +1,19 @@
--- `start` clears the memory, and cleared slots are vacant.
+-- `start` clears the slots of the rows, and cleared slots are vacant.
 -- Assumes nothing.
-use lib.ListN.{length}
-use Rattle.slots.specs.Laws.{starts}
+use native.Mathlib.Omega.{arith}
+use Rattle.slots.specs.Laws.{starts, slot-fits, rows-fit}
 use borrow.Author.Needs.{needs}
 use Rattle.slots.proofs.start.Statement.{statement}
 use Rattle.slots.proofs.start.Tie as tie
 
-clear-requires : tie.Need-clear-requires
-clear-requires c κs = search needs
+mul-clear-front : tie.Need-mul-clear-front
+mul-clear-front c = record { fits = omega (arith, slot-fits (c .before .before .args .h), c .before .before .pre .1, c .before .before .good .0 .0) }
+
+mul-clear-front-2 : tie.Need-mul-clear-front-2
+mul-clear-front-2 c = record { fits = omega (arith, rows-fit (c .before .before .args .h) (c .before .before .args .rows) (c .before .before .pre .0), c .before .before .pre .1, c .before .before .good .0 .0) }
+
+clear-front-requires : tie.Need-clear-front-requires
+clear-front-requires c κs = search needs
 
 same-length : tie.Need-same-length
 same-length c = search needs
@@ -15,7 +21,9 @@ same-length c = search needs
 returns : tie.Need-returns
 returns c =
     let done = c .before .before in
-    starts (length (done .before .before .before .args .work .now)) (done .clear .ensures)
+    let start = done .before .before .before in
+    starts (start .args .work .now) (start .args .rows) (start .pre .0) (start .pre .1) (done .clear-front .ensures)
 
 pub start-spec : {M : Type 1} → statement M
-start-spec = tie.close (tie.spec clear-requires same-length returns)
+start-spec =
+    tie.close (tie.spec mul-clear-front mul-clear-front-2 clear-front-requires same-length returns)

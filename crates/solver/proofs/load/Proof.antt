@@ -11,6 +11,7 @@ use Rattle.columns.specs.Slot.{roomOf}
 use Rattle.lists.specs.Meaning.{none, verticesOf, simplicesOf}
 use Rattle.lists.specs.Items.{length-mapped, counted, length-simplices, simplex-at}
 use Rattle.solver.proofs.Adding.{RowsUnder, rows-for}
+use Rattle.lookup.specs.IndexLaws.{zeros-blank}
 use Rattle.solver.proofs.Loading.{Loading, loading-start, loading-on, loading-end, halves-fit}
 use borrow.Author.Needs.{needs}
 use Rattle.solver.proofs.load.Statement.{statement}
@@ -34,19 +35,22 @@ slice-aggregate-index-3 : tie.Need-slice-aggregate-index-3 Inv-loop μ-loop
 slice-aggregate-index-3 c = search needs
 
 index-requires : tie.Need-index-requires Inv-loop μ-loop
-index-requires c κs = search needs
+index-requires c κs = zeros-blank
 
 least-requires : tie.Need-least-requires Inv-loop μ-loop
 least-requires c κs = search needs
 
 start-requires : tie.Need-start-requires Inv-loop μ-loop
-start-requires c κs = search needs
+start-requires c κs =
+    let indexed = c .before .before .before .before .before in
+    let start = indexed .before .before .before .before .before .before in
+    (subst (λ m. m ≤ 8 * start .args .h) (sym (indexed .index .ensures .keyed .count)) (start .pre .0), start .pre .1 .1 .1 .0)
 
 loop-holds : tie.Need-loop-holds Inv-loop μ-loop
 loop-holds c = λ rows u.
     let cleared = c .before .before in
     let start = cleared .before .before .before .before .before .before .before .before .before .before .before .before in
-    loading-start (cleared .start .ensures) refl (start .pre .1 .1 .1 .1)
+    loading-start (u .indexed .keyed .count) (cleared .start .ensures) refl (start .pre .1 .1 .1 .1)
 
 -- what was known before the loop
 module _ (p : tie.At-loop Inv-loop μ-loop) where

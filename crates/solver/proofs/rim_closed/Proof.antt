@@ -11,6 +11,7 @@ use Rattle.lists.specs.Meaning.{none, verticesOf, simplicesOf}
 use Rattle.lists.specs.declared.SimplexList.{SimplexList}
 use Rattle.lists.specs.Items.{length-mapped, counted, length-simplices, simplex-at}
 use Rattle.solver.proofs.Adding.{RowsUnder, rows-for}
+use Rattle.lookup.specs.IndexLaws.{zeros-blank}
 use Rattle.solver.proofs.Rimming.{Rimming, rimming-start, rimming-skip, rimming-add, rim-empty, rim-open}
 use borrow.Author.Needs.{needs}
 use Rattle.solver.proofs.rim_closed.Statement.{statement}
@@ -34,7 +35,7 @@ slice-aggregate-index-3 : tie.Need-slice-aggregate-index-3 Inv-loop μ-loop
 slice-aggregate-index-3 c = search needs
 
 index-requires : tie.Need-index-requires Inv-loop μ-loop
-index-requires c κs = search needs
+index-requires c κs = zeros-blank
 
 least-requires : tie.Need-least-requires Inv-loop μ-loop
 least-requires c κs = search needs
