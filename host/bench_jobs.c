@@ -49,6 +49,12 @@ static void make_hostile_falling(struct shape *shape, unsigned size)
     shape_hostile(shape, 64u << size, true);
 }
 
+static void make_colliding(struct shape *shape, unsigned size)
+{
+    static const unsigned vertices[SIZES] = {12, 16, 23, 32};
+    shape_colliding(shape, vertices[size], 64u << size);
+}
+
 /* ---- jobs at the limits ---- */
 
 static void make_full(struct draft_job *draft)
@@ -70,6 +76,7 @@ const struct bench_job bench_jobs[] = {
     {"sphere, shuffled", make_sphere, NULL},
     {"hostile", make_hostile, NULL},
     {"hostile, falling", make_hostile_falling, NULL},
+    {"colliding", make_colliding, NULL},
     {"full", NULL, make_full},
     {"full, facets last", NULL, make_full_turned_round},
     {"full, walk, edits", NULL, draft_longest_with_walk},

@@ -173,6 +173,45 @@ void shape_hostile(struct shape *shape, unsigned triangles, bool falling)
         add_to_rim(shape, t);
 }
 
+/* ---- colliding ---- */
+
+enum { BUCKETS = 1019 }; /* as crate keys has it: what matters is only that they are hit */
+
+static unsigned bucket(unsigned a, unsigned b, unsigned c)
+{
+    return (unsigned)((a + ((uint64_t)b << 16) + ((uint64_t)c << 32)) % BUCKETS);
+}
+
+static void count_buckets(unsigned vertices, unsigned held[BUCKETS])
+{
+    memset(held, 0, BUCKETS * sizeof held[0]);
+    for (unsigned a = 0; a < vertices; a++)
+        for (unsigned b = a + 1; b < vertices; b++)
+            for (unsigned c = b + 1; c < vertices; c++)
+                held[bucket(a, b, c)]++;
+}
+
+static void add_triangles_of(struct shape *shape, const unsigned held[BUCKETS], unsigned many,
+                             unsigned triangles)
+{
+    for (unsigned a = 0; a < shape->vertices; a++)
+        for (unsigned b = a + 1; b < shape->vertices; b++)
+            for (unsigned c = b + 1; c < shape->vertices && shape->triangles < triangles; c++)
+                if (held[bucket(a, b, c)] == many)
+                    add_triangle(shape, a, b, c);
+}
+
+void shape_colliding(struct shape *shape, unsigned vertices, unsigned triangles)
+{
+    static unsigned held[BUCKETS];
+    start(shape, vertices);
+    count_buckets(vertices, held);
+    for (unsigned many = SHAPE_MOST; many > 0 && shape->triangles < triangles; many--)
+        add_triangles_of(shape, held, many, triangles);
+    for (unsigned t = 0; t < shape->triangles; t += 2)
+        add_to_rim(shape, t);
+}
+
 /* ---- all shapes ---- */
 
 void shape_shuffle(struct shape *shape, struct dice *dice)

@@ -36,6 +36,12 @@ void shape_sphere(struct shape *shape, unsigned round, unsigned rings);
  */
 void shape_hostile(struct shape *shape, unsigned triangles, bool falling);
 
+/*
+ * Triangles of the complete complex on so many vertices, those first whose number
+ * falls into the fullest buckets of the library's look-up.
+ */
+void shape_colliding(struct shape *shape, unsigned vertices, unsigned triangles);
+
 /* The same triangles in a random order. */
 void shape_shuffle(struct shape *shape, struct dice *dice);
 
