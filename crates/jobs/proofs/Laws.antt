@@ -1,7 +1,7 @@
 -- What each stage's verdict comes to: a refusal is the whole reading's, and otherwise the rest of the definition follows.
 use Prim.Native.Nat.{ℕ, suc, _+_, _-_, _≤_, _<_}
 use native.Mathlib.Numerals.{sub-one}
-use mathlib.Core.Path.{_≡_, refl, sym, _∙_, ap, subst}
+use mathlib.Core.Path.{_≡_, refl, sym, _∙_, ap, subst, fun-ext}
 use mathlib.Core.Bool.{Bool, true, false, not}
 use mathlib.Core.Logic.{_⊎_, inl, inr}
 use mathlib.Core.List.{List, []}
@@ -38,8 +38,9 @@ use Rattle.chain_stage.specs.Meaning.{ChainStageRead}
 use Rattle.chain_stage.specs.declared.ChainStage.{ChainStage}
 use Rattle.edits.specs.Meaning.{EditsTaken}
 use Rattle.edits.specs.declared.EditsRead.{EditsRead}
-use Rattle.jobs.specs.Meaning.{Outcome, SoundHead, ListSound, afterEdges, afterTriangles}
+use Rattle.jobs.specs.Meaning.{Outcome, SoundHead, ListSound, Lists, readLists, ListsTold}
 use Rattle.jobs.specs.declared.JobRead.{JobRead}
+use Rattle.jobs.specs.declared.ListsRead.{ListsRead}
 
 -- A REFUSAL of a stage is the outcome.
 pub outcome-refused : (r : Reading reader.Job) (j : JobRead) (n p : ℕ) → r ≡ refused n p → j .verdict ≡ Refused n p → Outcome r j
@@ -79,27 +80,61 @@ faces-in width l known indexed = record { proper = sound-proper (known .sound); 
 pub no-faces : (keys : List ℕ) → FacesIn 2 [] keys 0
 no-faces keys = record { proper = proper-none 1; keyed = record { count = refl; own = λ i lt. absurd (omega arith) } }
 
+-- THE LISTS, one over the other, by what was read of each.
+module _ (b : List ℕ) (at v : ℕ) where
+  pub no-edges : (n p : ℕ) → readList small b at edgesKind v [] ≡ refused n p → readLists b at v ≡ refused n p
+  unfolding readLists
+  no-edges n p e = rw e
+
+  module _ (edges : Listing) (some : readList small b at edgesKind v [] ≡ accepted edges) where
+    pub no-triangles : (n p : ℕ) → readList small b (edges .next) trianglesKind v (edges .list) ≡ refused n p → readLists b at v ≡ refused n p
+    unfolding readLists
+    no-triangles n p e = rw (some, e)
+
+    module _ (triangles : Listing) (more : readList small b (edges .next) trianglesKind v (edges .list) ≡ accepted triangles) where
+      pub all-lists : (verdict : Verdict) (l : Listing) → readList small b (triangles .next) tetrahedraKind v (triangles .list) ≡ readingOf verdict l
+          → readLists b at v ≡ readingOf verdict (record {
+            complex = record { v = v; edges = edges .list; triangles = triangles .list; tetrahedra = l .list };
+            next = l .next;
+          })
+      unfolding readLists
+      all-lists verdict l e =
+          rw (some, more, e)
+          (reading-then verdict l (λ s. record { complex = record { v = v; edges = edges .list; triangles = triangles .list; tetrahedra = s .list }; next = s .next }))
+
+then-assoc : {A B C : Type 0} (r : Reading A) (f : A → Reading B) (g : B → Reading C) → ((r andThen f) andThen g) ≡ (r andThen λ a. f a andThen g)
+then-assoc (accepted a) f g = refl
+then-assoc (refused n p) f g = refl
+
 -- THE STAGES of the definition, one behind the other.
 module _ (b : List ℕ) (at : ℕ) (h : reader.Head) where
-  pub edges-refused : (n p : ℕ) → readList small b at edgesKind (h .v) [] ≡ refused n p → afterHead small b at h ≡ refused n p
-  unfolding afterHead
-  edges-refused n p e = rw e
+  -- the lists are read first, and then the rest
+  pub lists-first : afterHead small b at h ≡ (readLists b at (h .v) andThen λ l. afterLists small b h (l .next) (l .complex))
+  unfolding afterHead readLists
+  lists-first =
+      sym
+      (then-assoc (readList small b at edgesKind (h .v) []) _ rest
+      ∙ ap (λ (f : Listing → Reading reader.Job). readList small b at edgesKind (h .v) [] andThen f)
+      (fun-ext λ e. then-assoc (readList small b (e .next) trianglesKind (h .v) (e .list)) _ rest
+      ∙ ap (λ (f : Listing → Reading reader.Job). readList small b (e .next) trianglesKind (h .v) (e .list) andThen f)
+      (fun-ext λ t. then-assoc (readList small b (t .next) tetrahedraKind (h .v) (t .list)) _ rest)))
+    where
+      rest : Lists → Reading reader.Job
+      rest l = afterLists small b h (l .next) (l .complex)
 
-  pub edges-fine : (l : Listing) → readList small b at edgesKind (h .v) [] ≡ accepted l → afterHead small b at h ≡ afterEdges b h (l .next) (l .list)
-  unfolding afterHead
-  edges-fine l e = rw e
+  -- so a refusal among them is the outcome, and otherwise the rest is
+  module _ (keys first next : List ℕ) (r : ListsRead) (told : ListsTold b at (h .v) keys first next r) where
+    pub lists-refused : (n p : ℕ) → r .verdict ≡ Refused n p → afterHead small b at h ≡ refused n p
+    lists-refused n p e =
+        lists-first
+        ∙ ap (λ x. x andThen λ l. afterLists small b h (l .next) (l .complex))
+        (told .reads ∙ ap (λ v. readingOf v (record { complex = complexOf (r .complex); next = r .next })) e)
 
-  pub triangles-refused : (edges : List Simplex) (n p : ℕ) → readList small b at trianglesKind (h .v) edges ≡ refused n p → afterEdges b h at edges ≡ refused n p
-  triangles-refused edges n p e = rw e
-
-  pub triangles-fine : (edges : List Simplex) (l : Listing) → readList small b at trianglesKind (h .v) edges ≡ accepted l → afterEdges b h at edges ≡ afterTriangles b h (l .next) edges (l .list)
-  triangles-fine edges l e = rw e
-
-  pub tetrahedra-refused : (edges triangles : List Simplex) (n p : ℕ) → readList small b at tetrahedraKind (h .v) triangles ≡ refused n p → afterTriangles b h at edges triangles ≡ refused n p
-  tetrahedra-refused edges triangles n p e = rw e
-
-  pub tetrahedra-fine : (edges triangles : List Simplex) (l : Listing) → readList small b at tetrahedraKind (h .v) triangles ≡ accepted l → afterTriangles b h at edges triangles ≡ afterLists small b h (l .next) (record { v = h .v; edges = edges; triangles = triangles; tetrahedra = l .list })
-  tetrahedra-fine edges triangles l e = rw e
+    pub lists-fine : r .verdict ≡ Fine → afterHead small b at h ≡ afterLists small b h (r .next) (complexOf (r .complex))
+    lists-fine e =
+        lists-first
+        ∙ ap (λ x. x andThen λ l. afterLists small b h (l .next) (l .complex))
+        (told .reads ∙ ap (λ v. readingOf v (record { complex = complexOf (r .complex); next = r .next })) e)
 
   pub chain-refused : (X : format.Complex) (n p : ℕ) → readChain small b at (chainDimension (h .question) (h .d)) X ≡ refused n p → afterLists small b h at X ≡ refused n p
   unfolding afterLists
@@ -184,3 +219,16 @@ pub head-known : (p : List ℕ) (r : HeadRead) (h : Head) → HeadKnown p r → 
 head-known p r h known e =
     let read = head-sound small p (headOf h) (told headReading r (Sound h) _ (known .reading) e) in
     record { asks = known .asks h e; dimension = read .0; vertices = read .1 }
+
+-- lists of which one was refused
+pub told-refused : {b : List ℕ} {at v : ℕ} {keys first next : List ℕ} {n p : ℕ} (r : ListsRead) → r .verdict ≡ Refused n p
+    → readLists b at v ≡ refused n p → ListsTold b at v keys first next r
+told-refused r e out = record {
+  reads = out ∙ ap (λ v. readingOf v (record { complex = complexOf (r .complex); next = r .next })) (sym e);
+  sound = λ f. no-fine f;
+  vertices = λ f. no-fine f;
+  indexed = λ f. no-fine f;
+}
+  where
+    no-fine : {A : Type 0} → r .verdict ≡ Fine → A
+    no-fine f = let z : _≡_ {A = ℕ} 0 1 = cc in absurd (omega arith)

@@ -7,10 +7,11 @@ use mathlib.Core.List.{List, []}
 use lib.ListN.{length}
 use Rattle.format.specs.Numbers.{small, trianglesKind, tetrahedraKind, edgesKind}
 use Rattle.format.specs.Simplex.{Simplex, SimplexSet}
-use Rattle.format.specs.Reading.{Reading, _andThen_, readList, afterLists, dimensionFits, questionOf}
+use Rattle.format.specs.Simplex as simplices
+use Rattle.format.specs.Reading.{Reading, accepted, _andThen_, readList, dimensionFits, questionOf}
 use Rattle.format.specs.Reading as format
 use Rattle.format.specs.Answer.{rows}
-use Rattle.format.specs.Sound.{SoundList, SoundJob}
+use Rattle.format.specs.Sound.{SoundList, SoundComplex, SoundJob}
 use Rattle.lists.specs.Meaning.{simplicesOf}
 use Rattle.lists.specs.Verdicts.{readingOf}
 use Rattle.lists.specs.declared.Verdict.the-variants.{Fine}
@@ -19,7 +20,9 @@ use Rattle.heads.specs.declared.Head.{Head}
 use Rattle.heads.specs.Meaning.{headOf}
 use Rattle.complexes.specs.Meaning.{jobOf, complexOf, Marked}
 use Rattle.complexes.specs.declared.Job.{Job}
+use Rattle.lookup.specs.Indexed.{Indexed}
 use Rattle.jobs.specs.declared.JobRead.{JobRead}
+use Rattle.jobs.specs.declared.ListsRead.{ListsRead}
 
 -- A head that was accepted: one of the two questions, in its range, with few enough vertices.
 pub record SoundHead (h : Head) : Type 0 where
@@ -41,17 +44,26 @@ pub record ListSound (kind v : ℕ) (faces l : List Simplex) : Type 0 where
   pub sound : SoundList kind v faces l
   pub few : length l ≤ small .simplices
 
--- the rest of the definition behind the edges, and behind the triangles
-abbrev pub afterEdges : List ℕ → format.Head → (at : ℕ) (edges : List Simplex) → Reading format.Job
-afterEdges b h at edges =
-    readList small b at trianglesKind (h .v) edges andThen λ t.
-    readList small b (t .next) tetrahedraKind (h .v) (t .list) andThen λ s.
-    afterLists small b h (s .next) (record { v = h .v; edges = edges; triangles = t .list; tetrahedra = s .list })
+-- the three lists of a file, and the offset behind them
+pub record Lists : Type 0 where
+  pub complex : simplices.Complex
+  pub next : ℕ
 
-abbrev pub afterTriangles : List ℕ → format.Head → (at : ℕ) (edges triangles : List Simplex) → Reading format.Job
-afterTriangles b h at edges triangles =
-    readList small b at tetrahedraKind (h .v) triangles andThen λ s.
-    afterLists small b h (s .next) (record { v = h .v; edges = edges; triangles = triangles; tetrahedra = s .list })
+-- the lists, each read over the one below
+unfoldable pub readLists : List ℕ → (at v : ℕ) → Reading Lists
+readLists b at v =
+    readList small b at edgesKind v [] andThen λ e.
+    readList small b (e .next) trianglesKind v (e .list) andThen λ t.
+    readList small b (t .next) tetrahedraKind v (t .list) andThen λ s.
+    accepted (record { complex = record { v = v; edges = e .list; triangles = t .list; tetrahedra = s .list }; next = s .next })
+
+-- What reading the lists leaves: the definition's reading; and where nothing was refused, a sound complex and an index of its
+-- edges.
+pub record ListsTold (b : List ℕ) (at v : ℕ) (keys first next : List ℕ) (r : ListsRead) : Type 0 where
+  pub reads : readLists b at v ≡ readingOf (r .verdict) (record { complex = complexOf (r .complex); next = r .next })
+  pub sound : r .verdict ≡ Fine → v ≤ 256 → SoundComplex small (complexOf (r .complex))
+  pub vertices : r .verdict ≡ Fine → v ≡ r .complex .v
+  pub indexed : r .verdict ≡ Fine → Indexed (simplicesOf (r .complex .edges)) keys first next (r .complex .edges .count)
 
 -- A job of the code that means a sound job: A is the set that its marks hold.
 pub record Readable (j : Job) : Type 0 where

@@ -9,17 +9,16 @@ use lists::SimplexList;
 use lists::Verdict;
 use stages::Opened;
 ghost use mathlib.Core.Path.{_≡_};
-ghost use mathlib.Core.List.{[]};
 ghost use Prim.Native.Nat.{_≤_};
 ghost use lib.ListN.{length};
 ghost use Rattle.format.specs.Numbers.{small};
 ghost use Rattle.format.specs.Reading.{reading, afterHead, afterLists, chainDimension, questionOf};
 ghost use Rattle.format.specs.Sound.{SoundComplex};
 ghost use Rattle.lists.specs.Meaning.{simplicesOf};
-ghost use Rattle.lookup.specs.Indexed.{Indexed};
+ghost use Rattle.lookup.specs.Indexed.{Indexed, Blank};
 ghost use Rattle.heads.specs.Meaning.{headOf};
 ghost use Rattle.complexes.specs.Meaning.{complexOf};
-ghost use Rattle.jobs.specs.Meaning.{Outcome, SoundHead, ListSound, afterEdges, afterTriangles};
+ghost use Rattle.jobs.specs.Meaning.{Outcome, SoundHead, ListsTold};
 
 // A verdict, and the job beside it, which counts only where nothing was refused.
 pub struct JobRead {
@@ -100,148 +99,127 @@ fn after_lists(
     }
 }
 
-// The tetrahedra, over the triangles. Both lists behind are entered.
-fn after_triangles(
-    job: &[u8],
-    head: Head,
-    at: usize,
-    edges: SimplexList,
-    edge_keys: &[u64],
-    edge_first: &[u16],
-    edge_next: &[u16],
-    triangles: SimplexList,
-    keys: &[u64],
-    first: &[u16],
-    next: &[u16],
-) -> JobRead
-    requires { ⌜ length (now job) ≤ 6690 ⌝ }
-    requires { ⌜ SoundHead head ⌝ }
-    requires { ⌜ ListSound 2 (head .v) [] (simplicesOf edges) ⌝ }
-    requires { ⌜ Indexed (simplicesOf edges) (now «edge_keys») (now «edge_first») (now «edge_next») (edges .count) ⌝ }
-    requires { ⌜ ListSound 3 (head .v) (simplicesOf edges) (simplicesOf triangles) ⌝ }
-    requires { ⌜ Indexed (simplicesOf triangles) (now keys) (now first) (now next) (triangles .count) ⌝ }
-    ensures { λ r. ⌜ Outcome (afterTriangles (now (job .entry)) (headOf head) at (simplicesOf edges) (simplicesOf triangles)) r ⌝ }
-{
-    let mut new_keys = [0u64; SimplexList::LIMIT];
-    let mut new_first = [0u16; BUCKETS];
-    let mut new_next = [0u16; SimplexList::LIMIT];
-    let read = stages::read_list(
-        job,
-        at,
-        SimplexList::TETRAHEDRA,
-        head.v,
-        keys,
-        first,
-        next,
-        triangles.count,
-        &mut new_keys,
-        &mut new_first,
-        &mut new_next,
-    );
-    let verdict = read.verdict;
-    match verdict {
-        Verdict::Refused(number, place) => JobRead::refused(number, place),
-        Verdict::Fine => {
-            let tetrahedra = read.list;
-            let complex = Complex {
-                v: head.v,
-                edges,
-                triangles,
-                tetrahedra,
-            };
-            let behind = read.next;
-            after_lists(job, head, behind, complex, edge_keys, edge_first, edge_next)
+// The three lists as they were read, which count only where nothing was refused, and the offset behind them.
+struct ListsRead {
+    pub verdict: Verdict,
+    pub complex: Complex,
+    pub next: usize,
+}
+
+impl ListsRead {
+    fn refused(number: u16, place: usize) -> Self
+        ensures { λ r. ⌜ r .verdict ≡ Verdict.Refused number place ⌝ }
+    {
+        ListsRead {
+            verdict: Verdict::Refused(number, place),
+            complex: Complex::empty(),
+            next: 0,
         }
     }
 }
 
-// The triangles, over the edges, which are entered.
-fn after_edges(
+// The edges, the triangles over them and the tetrahedra over those. An edge's facets are vertices, which no list holds, so no
+// faces are entered for it. The edges stay entered in the lent arrays.
+fn read_lists(
     job: &[u8],
-    head: Head,
     at: usize,
-    edges: SimplexList,
-    keys: &[u64],
-    first: &[u16],
-    next: &[u16],
-) -> JobRead
-    requires { ⌜ length (now job) ≤ 6690 ⌝ }
-    requires { ⌜ SoundHead head ⌝ }
-    requires { ⌜ ListSound 2 (head .v) [] (simplicesOf edges) ⌝ }
-    requires { ⌜ Indexed (simplicesOf edges) (now keys) (now first) (now next) (edges .count) ⌝ }
-    ensures { λ r. ⌜ Outcome (afterEdges (now (job .entry)) (headOf head) at (simplicesOf edges)) r ⌝ }
+    v: u16,
+    keys: &mut [u64],
+    first: &mut [u16],
+    next: &mut [u16],
+) -> ListsRead
+    requires { ⌜ Blank (now keys) (now first) (now next) ⌝ }
+    ensures { λ r. ⌜ ListsTold (now (job .entry)) at v (now (keys .exit)) (now (first .exit)) (now (next .exit)) r ⌝ }
 {
-    let mut new_keys = [0u64; SimplexList::LIMIT];
-    let mut new_first = [0u16; BUCKETS];
-    let mut new_next = [0u16; SimplexList::LIMIT];
-    let read = stages::read_list(
+    let no_keys = [0u64; 1];
+    let no_first = [0u16; BUCKETS];
+    let no_next = [0u16; 1];
+    let e = stages::read_list(
         job,
         at,
+        SimplexList::EDGES,
+        v,
+        &no_keys,
+        &no_first,
+        &no_next,
+        0,
+        keys,
+        first,
+        next,
+    );
+    let edges_verdict = e.verdict;
+    if let Verdict::Refused(number, place) = edges_verdict {
+        return ListsRead::refused(number, place);
+    }
+    let mut t_keys = [0u64; SimplexList::LIMIT];
+    let mut t_first = [0u16; BUCKETS];
+    let mut t_next = [0u16; SimplexList::LIMIT];
+    let t = stages::read_list(
+        job,
+        e.next,
         SimplexList::TRIANGLES,
-        head.v,
+        v,
         keys,
         first,
         next,
-        edges.count,
-        &mut new_keys,
-        &mut new_first,
-        &mut new_next,
+        e.list.count,
+        &mut t_keys,
+        &mut t_first,
+        &mut t_next,
     );
-    let verdict = read.verdict;
-    match verdict {
-        Verdict::Refused(number, place) => JobRead::refused(number, place),
-        Verdict::Fine => {
-            let triangles = read.list;
-            let behind = read.next;
-            after_triangles(
-                job,
-                head,
-                behind,
-                edges,
-                keys,
-                first,
-                next,
-                triangles,
-                &new_keys,
-                &new_first,
-                &new_next,
-            )
-        }
+    let triangles_verdict = t.verdict;
+    if let Verdict::Refused(number, place) = triangles_verdict {
+        return ListsRead::refused(number, place);
+    }
+    let mut s_keys = [0u64; SimplexList::LIMIT];
+    let mut s_first = [0u16; BUCKETS];
+    let mut s_next = [0u16; SimplexList::LIMIT];
+    let s = stages::read_list(
+        job,
+        t.next,
+        SimplexList::TETRAHEDRA,
+        v,
+        &t_keys,
+        &t_first,
+        &t_next,
+        t.list.count,
+        &mut s_keys,
+        &mut s_first,
+        &mut s_next,
+    );
+    let verdict = s.verdict;
+    let edges = e.list;
+    let triangles = t.list;
+    let tetrahedra = s.list;
+    ListsRead {
+        verdict,
+        complex: Complex {
+            v,
+            edges,
+            triangles,
+            tetrahedra,
+        },
+        next: s.next,
     }
 }
 
-// The edges. Their facets are vertices, which no list holds, so no faces are entered.
+// The lists, and then what is asked about.
 fn after_head(job: &[u8], head: Head, at: usize) -> JobRead
     requires { ⌜ length (now job) ≤ 6690 ⌝ }
     requires { ⌜ SoundHead head ⌝ }
     ensures { λ r. ⌜ Outcome (afterHead small (now (job .entry)) at (headOf head)) r ⌝ }
 {
-    let no_keys = [0u64; 1];
-    let no_first = [0u16; BUCKETS];
-    let no_next = [0u16; 1];
-    let mut new_keys = [0u64; SimplexList::LIMIT];
-    let mut new_first = [0u16; BUCKETS];
-    let mut new_next = [0u16; SimplexList::LIMIT];
-    let read = stages::read_list(
-        job,
-        at,
-        SimplexList::EDGES,
-        head.v,
-        &no_keys,
-        &no_first,
-        &no_next,
-        0,
-        &mut new_keys,
-        &mut new_first,
-        &mut new_next,
-    );
-    let verdict = read.verdict;
+    let mut keys = [0u64; SimplexList::LIMIT];
+    let mut first = [0u16; BUCKETS];
+    let mut next = [0u16; SimplexList::LIMIT];
+    let lists = read_lists(job, at, head.v, &mut keys, &mut first, &mut next);
+    let verdict = lists.verdict;
     match verdict {
         Verdict::Refused(number, place) => JobRead::refused(number, place),
         Verdict::Fine => {
-            let edges = read.list;
-            let behind = read.next;
-            after_edges(job, head, behind, edges, &new_keys, &new_first, &new_next)
+            let complex = lists.complex;
+            let behind = lists.next;
+            after_lists(job, head, behind, complex, &keys, &first, &next)
         }
     }
 }

@@ -1,47 +1,23 @@
--- `jobs::after_head` meets its contract: the edges are read, and then the triangles.
+-- `jobs::after_head` meets its contract: the lists are read, and then what is asked about.
 -- Assumes nothing.
-use mathlib.Core.Path.{_≡_}
-use mathlib.Core.List.{[]}
-use native.Mathlib.Omega.{arith}
-use Rattle.format.specs.Numbers.{small}
-use Rattle.format.specs.Reading.{readList}
 use Rattle.heads.specs.Meaning.{headOf}
-use Rattle.keys.specs.Chained.{chained-none}
-use Rattle.stages.specs.Meaning.{listRead}
 use Rattle.lookup.specs.IndexLaws.{zeros-blank}
-use Rattle.jobs.proofs.Laws.{outcome-refused, outcome-same, list-refused, list-fine, list-known, no-faces, edges-refused, edges-fine}
+use Rattle.jobs.proofs.Laws.{outcome-refused, outcome-same, lists-refused, lists-fine}
 use borrow.Author.Needs.{needs}
 use Rattle.jobs.proofs.after_head.Statement.{statement}
 use Rattle.jobs.proofs.after_head.Tie as tie
 
-slice-aggregate-read-list : tie.Need-slice-aggregate-read-list
-slice-aggregate-read-list c = search needs
+slice-aggregate-read-lists : tie.Need-slice-aggregate-read-lists
+slice-aggregate-read-lists c = search needs
 
-slice-aggregate-read-list-2 : tie.Need-slice-aggregate-read-list-2
-slice-aggregate-read-list-2 c = search needs
+slice-aggregate-read-lists-2 : tie.Need-slice-aggregate-read-lists-2
+slice-aggregate-read-lists-2 c = search needs
 
-slice-aggregate-read-list-3 : tie.Need-slice-aggregate-read-list-3
-slice-aggregate-read-list-3 c = search needs
+slice-aggregate-read-lists-3 : tie.Need-slice-aggregate-read-lists-3
+slice-aggregate-read-lists-3 c = search needs
 
-slice-aggregate-read-list-4 : tie.Need-slice-aggregate-read-list-4
-slice-aggregate-read-list-4 c = search needs
-
-slice-aggregate-read-list-5 : tie.Need-slice-aggregate-read-list-5
-slice-aggregate-read-list-5 c = search needs
-
-slice-aggregate-read-list-6 : tie.Need-slice-aggregate-read-list-6
-slice-aggregate-read-list-6 c = search needs
-
-read-list-requires : tie.Need-read-list-requires
-read-list-requires c κs = ((omega arith, omega arith), (chained-none _ _, zeros-blank))
-
--- the edges were read, over no list
-module _ (c : tie.After-read-list) where
-  abbrev start : tie.Start
-  start = c .before .before .before .before .before .before .before .before
-
-  edges-read : listRead (c .read-list .result) ≡ readList small (start .args .job .now) (start .args .at) 2 (start .args .head .v) []
-  edges-read = c .read-list .ensures .reads [] (no-faces _)
+read-lists-requires : tie.Need-read-lists-requires
+read-lists-requires c κs = zeros-blank
 
 enum-known-verdict : tie.Need-enum-known-verdict
 enum-known-verdict c = search needs
@@ -52,61 +28,56 @@ refused-requires c κs = search needs
 enum-told : tie.Need-enum-told
 enum-told c = search needs
 
-slice-aggregate-after-edges : tie.Need-slice-aggregate-after-edges
-slice-aggregate-after-edges c = search needs
+slice-aggregate-after-lists : tie.Need-slice-aggregate-after-lists
+slice-aggregate-after-lists c = search needs
 
-slice-aggregate-after-edges-2 : tie.Need-slice-aggregate-after-edges-2
-slice-aggregate-after-edges-2 c = search needs
+slice-aggregate-after-lists-2 : tie.Need-slice-aggregate-after-lists-2
+slice-aggregate-after-lists-2 c = search needs
 
-slice-aggregate-after-edges-3 : tie.Need-slice-aggregate-after-edges-3
-slice-aggregate-after-edges-3 c = search needs
+slice-aggregate-after-lists-3 : tie.Need-slice-aggregate-after-lists-3
+slice-aggregate-after-lists-3 c = search needs
 
-after-edges-requires : tie.Need-after-edges-requires
-after-edges-requires c κs =
+after-lists-requires : tie.Need-after-lists-requires
+after-lists-requires c κs =
     let told = c .before .before .before .before in
     let read = told .before .before .before .before .before in
-    let a = start read .args in
-    let p = start read .pre in
-    let fine = list-fine (a .job .now) (a .at) 2 (a .head .v) [] (read .read-list .result) (edges-read read) (told .enum-told .given .1) in
-    (p .0, (p .1, (list-known (a .job .now) (a .at) 2 (a .head .v) _ _ (omega arith) fine, read .read-list .ensures .indexed)))
+    let p = read .before .before .before .before .before .pre in
+    let lists = read .read-lists .ensures in
+    let fine = told .enum-told .given .1 in
+    (p .0, (p .1, (lists .vertices fine, (lists .sound fine (p .1 .vertices), lists .indexed fine))))
 
 returns : tie.Need-returns
 returns c =
     let told = c .before .before in
     let read = told .before .before .before .before .before in
-    let a = start read .args in
+    let a = read .before .before .before .before .before .args in
     outcome-refused _ (c .refused .result) _ _
-    (edges-refused (a .job .now) (a .at) (headOf (a .head)) _ _
-    (list-refused (a .job .now) (a .at) 2 (a .head .v) [] (read .read-list .result) _ _ (edges-read read) (told .verdict .given .1)))
+    (lists-refused (a .job .now) (a .at) (headOf (a .head)) _ _ _ (read .read-lists .result) (read .read-lists .ensures) _ _ (told .verdict .given .1))
     (c .refused .ensures)
 
 returns-2 : tie.Need-returns-2
 returns-2 c =
     let told = c .before .before .before .before .before in
     let read = told .before .before .before .before .before in
-    let a = start read .args in
-    outcome-same (c .after-edges .result)
-    (edges-fine (a .job .now) (a .at) (headOf (a .head)) _
-    (list-fine (a .job .now) (a .at) 2 (a .head .v) [] (read .read-list .result) (edges-read read) (told .enum-told .given .1)))
-    (c .after-edges .ensures)
+    let a = read .before .before .before .before .before .args in
+    outcome-same (c .after-lists .result)
+    (lists-fine (a .job .now) (a .at) (headOf (a .head)) _ _ _ (read .read-lists .result) (read .read-lists .ensures) (told .enum-told .given .1))
+    (c .after-lists .ensures)
 
 pub after-head-spec : {M : Type 1} → statement M
 after-head-spec =
     tie.close
     (tie.spec
-    slice-aggregate-read-list
-    slice-aggregate-read-list-2
-    slice-aggregate-read-list-3
-    slice-aggregate-read-list-4
-    slice-aggregate-read-list-5
-    slice-aggregate-read-list-6
-    read-list-requires
+    slice-aggregate-read-lists
+    slice-aggregate-read-lists-2
+    slice-aggregate-read-lists-3
+    read-lists-requires
     enum-known-verdict
     refused-requires
     enum-told
-    slice-aggregate-after-edges
-    slice-aggregate-after-edges-2
-    slice-aggregate-after-edges-3
-    after-edges-requires
+    slice-aggregate-after-lists
+    slice-aggregate-after-lists-2
+    slice-aggregate-after-lists-3
+    after-lists-requires
     returns
     returns-2)
