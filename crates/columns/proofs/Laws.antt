@@ -31,7 +31,8 @@ read-bit col k byte e = ap (λ (b : ℕ). eqb (b / 2 ^ (k % 8) % 2) 1) e
 -- ---- the loop that adds a column: at byte i, the first i bytes of s have been added to d
 
 pub record Added (d s : List ℕ) (n : ℕ) (x : List ℕ) (i : ℕ) : Type 0 where
-  pub end : n ≡ min (length d) (length s)
+  pub into : n ≤ length d
+  pub from : n ≤ length s
   pub within : i ≤ n
   pub sum : x ≡ xorBytes d (take i s)
   pub long : length x ≡ length d
@@ -43,21 +44,14 @@ xor-turn (x ∷ d) [] i hd hs = absurd (omega arith)
 xor-turn (x ∷ d) (y ∷ s) zero hd hs = ap (λ (t : List ℕ). bitXor x y ∷ t) (sym (xor-nil d))
 xor-turn (x ∷ d) (y ∷ s) (suc i) hd hs = ap (λ (t : List ℕ). bitXor x y ∷ t) (xor-turn d s i (omega arith) (omega arith))
 
--- past the shorter of the two there is nothing to add
-xor-done : (d s : List ℕ) (n : ℕ) → min (length d) (length s) ≤ n → xorBytes d (take n s) ≡ xorBytes d s
-xor-done [] s n h = refl
-xor-done (x ∷ d) [] zero h = refl
-xor-done (x ∷ d) [] (suc n) h = refl
-xor-done (x ∷ d) (y ∷ s) zero h = absurd (omega arith)
-xor-done (x ∷ d) (y ∷ s) (suc n) h = ap (λ (t : List ℕ). bitXor x y ∷ t) (xor-done d s n (omega arith))
-
-pub added-none : (d s : List ℕ) (n : ℕ) → n ≡ min (length d) (length s) → Added d s n d 0
-added-none d s n e = record { end = e; within = omega arith; sum = sym (xor-nil d); long = refl }
+pub added-none : (d s : List ℕ) (n : ℕ) → n ≤ length d → n ≤ length s → Added d s n d 0
+added-none d s n into from = record { into = into; from = from; within = omega arith; sum = sym (xor-nil d); long = refl }
 
 pub added-more : {d s : List ℕ} {n : ℕ} {x : List ℕ} {i : ℕ} → Added d s n x i → i < n
     → Added d s n (set x i (bitXor (getD x i 0) (getD s i 0))) (i + 1)
 added-more {d} {s} {n} {x} {i} a l = record {
-  end = a .end;
+  into = a .into;
+  from = a .from;
   within = omega arith;
   sum = ap (λ (t : List ℕ). set t i (bitXor (getD t i 0) (getD s i 0))) (a .sum)
       ∙ xor-turn d s i (omega arith) (omega arith)
@@ -65,8 +59,10 @@ added-more {d} {s} {n} {x} {i} a l = record {
   long = length-set x i _ ∙ a .long;
 }
 
-pub added-all : {d s : List ℕ} {n : ℕ} {x : List ℕ} {i : ℕ} → Added d s n x i → n ≤ i → x ≡ xorBytes d s
-added-all {d} {s} {n} {x} {i} a l = a .sum ∙ xor-done d s i (omega arith)
+pub added-all : {d s : List ℕ} {n : ℕ} {x : List ℕ} {i : ℕ} → Added d s n x i → n ≤ i → x ≡ xorBytes d (take n s)
+added-all {d} {s} {n} {x} {i} a l =
+    let all : i ≡ n = omega (arith, a .within) in
+    a .sum ∙ ap (λ (k : ℕ). xorBytes d (take k s)) all
 
 -- ---- the loop that clears: at byte i, the first i bytes are zero
 
@@ -85,15 +81,9 @@ cleared-more {d} {x} {i} a l = record {
   long = length-set x i 0 ∙ a .long;
 }
 
-pub cleared-all : {d x : List ℕ} {i : ℕ} → Cleared d x i → length x ≤ i → x ≡ replicate (length d) 0
-cleared-all {d} {x} {i} a l =
-    let all : i ≡ length d = omega arith in
-    a .zeros ∙ ap (λ (t : List ℕ). replicate i 0 ++ t) (drop-of-length-le d {i = i} (omega arith))
-    ∙ append-nil (replicate i 0) ∙ ap (λ (k : ℕ). replicate k 0) all
-
-pub cleared-front : {d x : List ℕ} {n i : ℕ} (k : ℕ) → Cleared d x i → n ≡ min k (length d) → n ≤ i → i ≤ n → x ≡ clearedFront k d
-cleared-front {d} {x} {n} {i} k a e l within =
-    let all : i ≡ min k (length d) = omega (arith, e) in
+pub cleared-front : {d x : List ℕ} {n i : ℕ} → Cleared d x i → n ≤ i → i ≤ n → x ≡ clearedFront n d
+cleared-front {d} {x} {n} {i} a l within =
+    let all : i ≡ n = omega arith in
     a .zeros ∙ ap (λ (j : ℕ). replicate j 0 ++ drop j d) all
 
 -- ---- the loop that stores: at byte j, the first j of the n bytes of s stand in d from place at on

@@ -1,9 +1,9 @@
 -- A column is a list of bytes that holds one bit for each rank: rank 8·j + k is bit k of byte j.
-use Prim.Native.Nat.{ℕ, _/_, _%_, _^_, min}
+use Prim.Native.Nat.{ℕ, _/_, _%_, _^_}
 use mathlib.Core.Bool.{Bool}
 use mathlib.Core.List.{List, [], _∷_, _++_}
 use lib.Dec.{eqb}
-use lib.ListN.{length, getD, set, drop, replicate}
+use lib.ListN.{getD, set, drop, replicate}
 use lib.Bits.{bitXor}
 use Rattle.chains.specs.Chain.{Chain}
 
@@ -29,6 +29,6 @@ xorBytes (x ∷ a) (y ∷ b) = bitXor x y ∷ xorBytes a b
 unfoldable pub flipped : List ℕ → ℕ → List ℕ
 flipped l i = set l (i / 8) (bitXor (getD l (i / 8) 0) (2 ^ (i % 8)))
 
--- bytes of which the first n, or all where there are fewer, are zero
+-- bytes of which the first n are zero
 abbrev pub clearedFront : ℕ → List ℕ → List ℕ
-clearedFront n l = replicate (min n (length l)) 0 ++ drop (min n (length l)) l
+clearedFront n l = replicate n 0 ++ drop n l

@@ -1,14 +1,14 @@
 -- Laws of a pair of columns, R and V, in one list of bytes: which bit of the whole is which rank of a half, what a
 -- flipped bit does to the halves, and that zeros hold nothing. They are what building a column in hand needs.
-use Prim.Native.Nat.{ℕ, zero, suc, _+_, _*_, _/_, _%_, _≤_, _<_, min}
+use Prim.Native.Nat.{ℕ, zero, suc, _+_, _*_, _/_, _%_, _≤_, _<_}
 use mathlib.Core.Path.{_≡_, refl, sym, ap, ap₂, _∙_, fun-ext}
 use mathlib.Core.Bool.{Bool, false}
-use mathlib.Core.List.{List, _∷_, _++_}
+use mathlib.Core.List.{List, _∷_, _++_, append-nil}
 use native.Mathlib.Nat.{zero-add, suc-mul, mul-le-mul-right}
 use native.Mathlib.Omega.{arith}
 use native.Mathlib.Decide.{decLt, ℕ-discrete}
 use lib.Dec.{eqb}
-use lib.ListN.{length, getD, take, drop, replicate, length-take}
+use lib.ListN.{length, getD, take, drop, replicate, length-take, drop-of-length-le}
 use lib.Seq.{getD-take, getD-drop}
 use borrow.Author.Tests.{eq-eqb, ne-eqb}
 use Rattle.chains.specs.Chain.{Chain, differ, _⊕_, empty, unit}
@@ -140,8 +140,14 @@ front-zeros zero (suc i) (suc k) rest h = ap (_∷_ 0) (front-zeros zero i k res
 front-zeros (suc j) i zero rest h = absurd (omega arith)
 front-zeros (suc j) i (suc k) rest h = front-zeros j i k rest (omega arith)
 
-pub slot-front : (h m r : ℕ) (work : List ℕ) → r < m → m * (2 * h) ≤ length work
-    → slot h (clearedFront (m * (2 * h)) work) r ≡ replicate (2 * h) 0
+pub slot-front : (h m r : ℕ) (work : List ℕ) → r < m → slot h (clearedFront (m * (2 * h)) work) r ≡ replicate (2 * h) 0
 unfolding slot
-slot-front h m r work lt room =
-    front-zeros (r * (2 * h)) (2 * h) (min (m * (2 * h)) (length work)) _ (omega (arith, mul-le-mul-right (2 * h) lt, suc-mul r (2 * h)))
+slot-front h m r work lt =
+    front-zeros (r * (2 * h)) (2 * h) (m * (2 * h)) _ (omega (arith, mul-le-mul-right (2 * h) lt, suc-mul r (2 * h)))
+
+-- where all bytes are in front, all are zero
+pub front-all : (n : ℕ) (l : List ℕ) → length l ≡ n → clearedFront n l ≡ replicate (length l) 0
+front-all n l e =
+    ap (λ (t : List ℕ). replicate n 0 ++ t) (drop-of-length-le l {i = n} (omega arith))
+    ∙ append-nil (replicate n 0)
+    ∙ ap (λ (k : ℕ). replicate k 0) (sym e)

@@ -1,8 +1,8 @@
 // Columns of bits in lent bytes: bit k of byte j is rank 8·j + k. The work memory is 8·h slots of
 // 2·h bytes (specs/Slot.antt); slot r is for the reduced column whose highest rank is r.
 ghost use mathlib.Core.Path.{_≡_};
-ghost use Prim.Native.Nat.{_+_, _*_, _≤_, _<_, min};
-ghost use lib.ListN.{length, getD, replicate};
+ghost use Prim.Native.Nat.{_+_, _*_, _≤_, _<_};
+ghost use lib.ListN.{length, getD, take, replicate};
 ghost use Rattle.columns.specs.Column.{bitAt, chainOf, xorBytes, flipped, clearedFront};
 ghost use Rattle.columns.specs.Slot.{roomOf, slot, occupiedAt, storeSlot};
 ghost use Rattle.columns.specs.Search.{highestBelow};
@@ -32,21 +32,26 @@ pub fn flip(col: &mut [u8], i: usize)
     }
 }
 
-// The smaller of two lengths.
-fn shorter(a: usize, b: usize) -> usize
-    ensures { λ r. ⌜ r ≡ min a b ⌝ }
+// Adds the first n bytes of src to dst.
+pub fn add(dst: &mut [u8], src: &[u8], n: usize)
+    requires { ⌜ (n ≤ length (now dst)) × (n ≤ length (now src)) ⌝ }
+    ensures { λ _. ⌜ now (dst .exit) ≡ xorBytes (now (dst .entry)) (take n (now (src .entry))) ⌝ }
 {
-    if a < b { a } else { b }
-}
-
-// Adds the column src to dst.
-pub fn add(dst: &mut [u8], src: &[u8])
-    ensures { λ _. ⌜ now (dst .exit) ≡ xorBytes (now (dst .entry)) (now (src .entry)) ⌝ }
-{
-    let n = shorter(dst.len(), src.len());
     let mut i = 0;
     while i < n {
         dst[i] = dst[i] ^ src[i];
+        i += 1;
+    }
+}
+
+// Makes the first n bytes zero.
+pub fn clear_front(bytes: &mut [u8], n: usize)
+    requires { ⌜ n ≤ length (now bytes) ⌝ }
+    ensures { λ _. ⌜ now (bytes .exit) ≡ clearedFront n (now (bytes .entry)) ⌝ }
+{
+    let mut i = 0;
+    while i < n {
+        bytes[i] = 0;
         i += 1;
     }
 }
@@ -55,23 +60,8 @@ pub fn add(dst: &mut [u8], src: &[u8])
 pub fn clear(bytes: &mut [u8])
     ensures { λ _. ⌜ now (bytes .exit) ≡ replicate (length (now (bytes .entry))) 0 ⌝ }
 {
-    let mut i = 0;
-    while i < bytes.len() {
-        bytes[i] = 0;
-        i += 1;
-    }
-}
-
-// Makes the first n bytes zero, or all of them where there are fewer.
-pub fn clear_front(bytes: &mut [u8], n: usize)
-    ensures { λ _. ⌜ now (bytes .exit) ≡ clearedFront n (now (bytes .entry)) ⌝ }
-{
-    let end = shorter(n, bytes.len());
-    let mut i = 0;
-    while i < end {
-        bytes[i] = 0;
-        i += 1;
-    }
+    let n = bytes.len();
+    clear_front(bytes, n);
 }
 
 // What a search for the highest rank finds.
@@ -114,12 +104,13 @@ pub fn occupied(work: &[u8], h: usize, r: usize) -> bool
 pub fn add_slot(cur: &mut [u8], work: &[u8], h: usize, r: usize)
     requires { ⌜ r < 8 * h ⌝ }
     requires { ⌜ roomOf h ≤ length (now work) ⌝ }
+    requires { ⌜ 2 * h ≤ length (now cur) ⌝ }
     ensures { λ _. ⌜ now (cur .exit) ≡ xorBytes (now (cur .entry)) (slot h (now (work .entry)) r) ⌝ }
 {
     let size = 2 * h;
     let from = r * size;
     let to = from + size;
-    add(cur, &work[from..to]);
+    add(cur, &work[from..to], size);
 }
 
 // Puts the pair of columns in hand into slot r.

@@ -39,18 +39,14 @@ unfolding roomOf
 rows-fit h m low = mul-le-mul-right (2 * h) low
 
 -- Cleared memory holds nothing in any slot.
-pub starts : {h : ℕ} (work : List ℕ) {after : List ℕ} (m : ℕ) → m ≤ 8 * h → roomOf h ≤ length work → after ≡ clearedFront (m * (2 * h)) work
-    → Starts h m after
-starts {h} work {after} m low room e =
+pub starts : {h : ℕ} (work : List ℕ) {after : List ℕ} (m : ℕ) → after ≡ clearedFront (m * (2 * h)) work → Starts h m after
+starts {h} work {after} m e =
     subst (Starts h m) (sym e)
     (record {
       vacant = λ D n. echelon-start D n m _ _
-          (λ r l. ap (chainR h) (slot-front h m r work l fits) ∙ halfR-zeros h (2 * h))
-          (λ r l. ap (chainV h) (slot-front h m r work l fits) ∙ halfV-zeros h (2 * h));
+          (λ r l. ap (chainR h) (slot-front h m r work l) ∙ halfR-zeros h (2 * h))
+          (λ r l. ap (chainV h) (slot-front h m r work l) ∙ halfV-zeros h (2 * h));
     })
-  where
-    fits : m * (2 * h) ≤ length work
-    fits = omega (arith, rows-fit h m low, room)
 
 -- A pair that is stored is put into its slot, in the table of either half.
 put-in : (half : List ℕ → Chain) (h m : ℕ) (work : List ℕ) → roomOf h ≤ length work → (r : ℕ) → r < 8 * h

@@ -12,6 +12,7 @@ ghost use Rattle.solver.specs.Columns.{Over, RowsFor, AddsBoundary, Load
 ghost use Rattle.solver.specs.Solved.{RimTold, Prepared, FillTold, ClassTold};
 use columns::Highest;
 use columns::clear;
+use columns::clear_front;
 use columns::flip;
 use columns::next_down;
 use keys::BUCKETS;
@@ -101,7 +102,7 @@ pub fn load(
         let rank = i;
         i += 1;
         let s = cols.items[rank];
-        clear(cur);
+        clear_front(cur, 2 * h);
         let top = add_boundary(cur, &keys, &first, &next, m, s);
         flip(cur, 8 * h + rank);
         insert_column(work, cur, h, top);

@@ -1,5 +1,4 @@
--- `add` leaves the sum of the two columns: at byte i the first i bytes of src have been added (`Added`), and past the
--- shorter length there is nothing to add.
+-- `add` leaves the sum of the two columns: at byte i the first i bytes of src have been added (`Added`).
 -- Assumes nothing.
 use Prim.Native.Nat.{_-_}
 use native.Mathlib.Omega.{arith}
@@ -14,11 +13,8 @@ Inv-loop dst₀ src n i₀ dst i = Added dst₀ src n dst i
 abbrev μ-loop : tie.MeasureT-loop
 μ-loop dst₀ src n i₀ dst i = n - i
 
-shorter-requires : tie.Need-shorter-requires Inv-loop μ-loop
-shorter-requires c κs = search needs
-
 loop-holds : tie.Need-loop-holds Inv-loop μ-loop
-loop-holds c = added-none _ _ (c .shorter .result) (c .shorter .ensures)
+loop-holds c = added-none _ _ _ (c .pre .0) (c .pre .1)
 
 slice-read-dst : tie.Need-slice-read-dst Inv-loop μ-loop
 slice-read-dst c = omega arith
@@ -53,7 +49,6 @@ add-spec =
     (tie.spec
     Inv-loop
     μ-loop
-    shorter-requires
     loop-holds
     slice-read-dst
     shared-slice-read-dst

@@ -1,10 +1,12 @@
 -- `add_slot` adds slot r: the part of the work memory that it hands to `add` is the slot.
 -- Assumes nothing.
-use Prim.Native.Nat.{ℕ, _+_, _*_, _≤_}
+use Prim.Native.Nat.{ℕ, _+_, _-_, _*_, _≤_}
+use mathlib.Core.List.{List}
 use mathlib.Core.Path.{ap, _∙_}
 use native.Mathlib.Nat.{add-sub-cancel-left}
 use native.Mathlib.Omega.{arith}
-use lib.ListN.{length, take, drop}
+use lib.ListN.{length, take, drop, length-take, length-drop}
+use lib.Seq.{take-all}
 use Rattle.columns.specs.Column.{xorBytes}
 use Rattle.columns.specs.Slot.{slot}
 use Rattle.columns.specs.SlotLaws.{slot-fits}
@@ -14,7 +16,7 @@ use Rattle.columns.proofs.add_slot.Tie as tie
 
 -- the slot is within the work memory
 fits : (c : tie.Start) → c .args .r * (2 * c .args .h) + 2 * c .args .h ≤ length (c .args .work .now)
-fits c = slot-fits (c .args .h) (c .args .r) (length (c .args .work .now)) (c .pre .0) (c .pre .1)
+fits c = slot-fits (c .args .h) (c .args .r) (length (c .args .work .now)) (c .pre .0) (c .pre .1 .0)
 
 mul-size : tie.Need-mul-size
 mul-size c = omega (arith, fits (c .before .before))
@@ -45,9 +47,12 @@ unfolding slot
 returns c =
     let start = c .before .before .before .before .before .before .before in
     let at : ℕ = start .args .r * (2 * start .args .h) in
+    let size : ℕ = 2 * start .args .h in
+    let part : List ℕ = take (at + size - at) (drop at (start .args .work .now)) in
     c .before .before .add .ensures
-    ∙ ap (λ (n : ℕ). xorBytes (start .args .cur .now) (take n (drop at (start .args .work .now))))
-    (add-sub-cancel-left at (2 * start .args .h))
+    ∙ ap (λ (l : List ℕ). xorBytes (start .args .cur .now) l)
+    (take-all size part (omega (arith, length-take (at + size - at) (drop at (start .args .work .now))))
+    ∙ ap (λ (n : ℕ). take n (drop at (start .args .work .now))) (add-sub-cancel-left at size))
 
 pub add-slot-spec : {M : Type 1} → statement M
 add-slot-spec =

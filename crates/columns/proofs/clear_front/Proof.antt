@@ -1,4 +1,4 @@
--- `clear_front` leaves zeros in front: at byte i the first i are zero (`Cleared`), and the loop ends at n or at the length.
+-- `clear_front` leaves zeros in front: at byte i the first i are zero (`Cleared`), and the loop ends at n.
 -- Assumes nothing.
 use Prim.Native.Nat.{_-_, _≤_, _<_}
 use native.Mathlib.Omega.{arith}
@@ -9,21 +9,18 @@ use Rattle.columns.proofs.clear_front.Statement.{statement}
 use Rattle.columns.proofs.clear_front.Tie as tie
 
 abbrev Inv-loop : tie.InvT-loop
-Inv-loop bytes₀ n end i₀ bytes i = Cleared bytes₀ bytes i × (i ≤ end)
+Inv-loop bytes₀ n i₀ bytes i = Cleared bytes₀ bytes i × (i ≤ n)
 
 abbrev μ-loop : tie.MeasureT-loop
-μ-loop bytes₀ n end i₀ bytes i = end - i
-
-shorter-requires : tie.Need-shorter-requires Inv-loop μ-loop
-shorter-requires c κs = search needs
+μ-loop bytes₀ n i₀ bytes i = n - i
 
 loop-holds : tie.Need-loop-holds Inv-loop μ-loop
-loop-holds c = (cleared-none (c .before .before .args .bytes .now), omega arith)
+loop-holds c = (cleared-none (c .args .bytes .now), omega arith)
 
 -- a byte before the end is one of the bytes
 inside : (c : tie.In-loop Inv-loop μ-loop) → c .before .loop .i < length (c .before .loop .bytes)
 inside c =
-    omega (arith, c .loop-test .taken, c .before .before .shorter .ensures, c .before .loop .inv .0 .long)
+    omega (arith, c .loop-test .taken, c .before .before .pre, c .before .loop .inv .0 .long)
 
 slice-write-bytes : tie.Need-slice-write-bytes Inv-loop μ-loop
 slice-write-bytes c = omega (arith, inside c)
@@ -41,7 +38,7 @@ same-length : tie.Need-same-length Inv-loop μ-loop
 same-length c = c .before .loop .inv .0 .long
 
 returns : tie.Need-returns Inv-loop μ-loop
-returns c = cleared-front _ (c .before .loop .inv .0) (c .before .before .shorter .ensures) (c .loop-test .left) (c .before .loop .inv .1)
+returns c = cleared-front (c .before .loop .inv .0) (c .loop-test .left) (c .before .loop .inv .1)
 
 pub clear-front-spec : {M : Type 1} → statement M
 clear-front-spec =
@@ -49,7 +46,6 @@ clear-front-spec =
     (tie.spec
     Inv-loop
     μ-loop
-    shorter-requires
     loop-holds
     slice-write-bytes
     add-i

@@ -1,6 +1,7 @@
 -- `settle` stops where the definition does: the search finds the highest row that is held, the rows above it are
 -- passed over, and its slot is added if it is occupied (`Settling`).
 -- Assumes nothing.
+use native.Mathlib.Omega.{arith}
 use Prim.Native.Nat.{_*_, _<_}
 use mathlib.Core.Path.{sym, _∙_}
 use Rattle.columns.proofs.Settling.{Settling, settling-start, settling-end, settling-stop, settling-add, row-below, row-low}
@@ -49,7 +50,9 @@ occupied-requires c κs = (low (c .before), c .before .before .before .before .b
 add-slot-requires : tie.Need-add-slot-requires Inv-loop μ-loop
 add-slot-requires c κs =
     let found = c .before .before .before .before in
-    (low found, found .before .before .before .before .before .before .before .pre .1 .0)
+    let head = found .before .before .before .before in
+    let start = head .before .before .before in
+    (low found, (start .pre .1 .0, omega (arith, head .loop .inv .long, start .pre .1 .1)))
 
 loop-less : tie.Need-loop-less Inv-loop μ-loop
 loop-less c =

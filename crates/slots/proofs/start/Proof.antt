@@ -13,7 +13,9 @@ mul-clear-front-2 : tie.Need-mul-clear-front-2
 mul-clear-front-2 c = record { fits = omega (arith, rows-fit (c .before .before .args .h) (c .before .before .args .rows) (c .before .before .pre .0), c .before .before .pre .1, c .before .before .good .0 .0) }
 
 clear-front-requires : tie.Need-clear-front-requires
-clear-front-requires c κs = search needs
+clear-front-requires c κs =
+    let start = c .before .before in
+    omega (arith, rows-fit (start .args .h) (start .args .rows) (start .pre .0), start .pre .1)
 
 same-length : tie.Need-same-length
 same-length c = search needs
@@ -22,7 +24,7 @@ returns : tie.Need-returns
 returns c =
     let done = c .before .before in
     let start = done .before .before .before in
-    starts (start .args .work .now) (start .args .rows) (start .pre .0) (start .pre .1) (done .clear-front .ensures)
+    starts (start .args .work .now) (start .args .rows) (done .clear-front .ensures)
 
 pub start-spec : {M : Type 1} → statement M
 start-spec =

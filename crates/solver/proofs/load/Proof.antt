@@ -11,6 +11,7 @@ use Rattle.columns.specs.Slot.{roomOf}
 use Rattle.lists.specs.Meaning.{none, verticesOf, simplicesOf}
 use Rattle.lists.specs.Items.{length-mapped, counted, length-simplices, simplex-at}
 use Rattle.solver.proofs.Adding.{RowsUnder, rows-for}
+use Rattle.columns.specs.PairLaws.{front-all}
 use Rattle.lookup.specs.IndexLaws.{zeros-blank}
 use Rattle.solver.proofs.Loading.{Loading, loading-start, loading-on, loading-end, halves-fit}
 use borrow.Author.Needs.{needs}
@@ -109,8 +110,11 @@ mul-s c = search needs
 element-copy-out-s : tie.Need-element-copy-out-s Inv-loop μ-loop
 element-copy-out-s c = search needs
 
-clear-requires : tie.Need-clear-requires Inv-loop μ-loop
-clear-requires c κs = search needs
+mul-clear-front : tie.Need-mul-clear-front Inv-loop μ-loop
+mul-clear-front c = record { fits = omega (arith, same-lengths (c .before .before .before) .1, bits-low (c .before .before)) }
+
+clear-front-requires : tie.Need-clear-front-requires Inv-loop μ-loop
+clear-front-requires c κs = omega (arith, same-lengths (c .before .before .before) .1)
 
 slice-aggregate-add-boundary : tie.Need-slice-aggregate-add-boundary Inv-loop μ-loop
 slice-aggregate-add-boundary c = search needs
@@ -157,7 +161,7 @@ insert-column-requires c κs =
       le-trans (boundary .within) (start .pre .0),
       (
         subst (λ n. roomOf (start .args .h) ≤ n) (sym (same-lengths (turn .before) .0)) (start .pre .1 .1 .1 .0),
-        flipped .flip .kept .0 ∙ added .add-boundary .kept .0 ∙ cleared .clear .kept .0 ∙ same-lengths (turn .before) .1,
+        flipped .flip .kept .0 ∙ added .add-boundary .kept .0 ∙ cleared .clear-front .kept .0 ∙ same-lengths (turn .before) .1,
       ),
     )
 
@@ -173,7 +177,7 @@ loop-again c = λ rows u.
     let cleared = added .before .before .before .before .before .before .before in
     let turn = cleared .before .before .before in
     loading-on (turn .before .loop .inv rows u) (u .small) (in-half turn) (column-at turn)
-    (cleared .clear .ensures) (added .add-boundary .ensures (rows-for (u .indexed) (u .over) (in-list turn) (column-at turn)))
+    (cleared .clear-front .ensures ∙ front-all _ _ (same-lengths (turn .before) .1)) (added .add-boundary .ensures (rows-for (u .indexed) (u .over) (in-list turn) (column-at turn)))
     (added .add-boundary .kept .0) (flipped .flip .ensures) (in-list turn)
     (put .insert-column .ensures) (put .insert-column .kept .0) (put .insert-column .kept .1 .0)
 
@@ -209,7 +213,8 @@ load-spec =
     add-i
     mul-s
     element-copy-out-s
-    clear-requires
+    mul-clear-front
+    clear-front-requires
     slice-aggregate-add-boundary
     slice-aggregate-add-boundary-2
     slice-aggregate-add-boundary-3
