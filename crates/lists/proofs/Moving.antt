@@ -5,8 +5,8 @@ use native.Mathlib.Omega.{arith}
 use native.Mathlib.Decide.{decLt}
 use mathlib.Core.Path.{_≡_, refl, sym, ap, ap₂, _∙_}
 use mathlib.Core.List.{List, map}
-use lib.ListN.{length, take, length-map}
-use lib.Seq.{length-take-le}
+use lib.ListN.{length, take, getD, set, length-map, length-set}
+use lib.Seq.{length-take-le, set-getD, set-set, getD-set-same, getD-set-other}
 use Rattle.format.specs.Reading.{moved}
 use Rattle.format.specs.Moves.{exchanged, moved-home, moved-up, moved-down, take-moved, moved-out, map-moved}
 use Rattle.lists.specs.Meaning.{verticesOf, simplicesOf}
@@ -38,35 +38,60 @@ nearer i to j t apart = go (side i to j t apart)
     go (above h e) = omega arith
     go (below h e) = omega arith
 
--- an item of a list of n places on its way from `seen` to `new`, now at place i
-pub record Moving {A : Type 0} (n seen new : ℕ) (before list : List A) (i : ℕ) : Type 0 where
+-- An item a of a list of n places on its way from `seen` to `new`: those that it passed have moved up to fill its place, and
+-- put at place i it makes the list of the move to i.
+pub record Moving {A : Type 0} (n seen new : ℕ) (before list : List A) (a : A) (i : ℕ) : Type 0 where
   pub full : length before ≡ n
+  pub long : length list ≡ n
   pub from : seen < n
   pub to : new < n
   pub here : i < n
-  pub so-far : list ≡ moved seen i before
+  pub so-far : set list i a ≡ moved seen i before
+
+-- one step is an exchange of neighbours, of which only one is written
+step-exchanged : {A : Type 0} (d a : A) (list : List A) (i j : ℕ) → i < length list → (j ≡ i → ⊥)
+    → set (set list i (getD list j d)) j a ≡ exchanged d i j (set list i a)
+step-exchanged {A} d a list i j inside apart =
+    sym
+    (ap₂ (λ (l : List A) (x : A). set l j x) (set-set list i a _) (getD-set-same list i a d inside)
+    ∙ ap (λ (x : A). set (set list i x) j a) (getD-set-other list i j a d apart))
 
 module _ {A : Type 0} (n seen new : ℕ) (before : List A) where
-  pub moving-start : length before ≡ n → seen < n → new < n → Moving n seen new before before seen
-  moving-start full from to =
-      record { full = full; from = from; to = to; here = from; so-far = sym (moved-home seen before) }
+  pub moving-start : (d : A) → length before ≡ n → seen < n → new < n → Moving n seen new before before (getD before seen d) seen
+  moving-start d full from to =
+      record {
+        full = full;
+        long = full;
+        from = from;
+        to = to;
+        here = from;
+        so-far = set-getD before seen d ∙ sym (moved-home seen before);
+      }
 
-  pub moving-on : (d : A) (list : List A) (i j : ℕ) → Moving n seen new before list i → (i ≡ new → ⊥) → Toward i new j → Moving n seen new before (exchanged d i j list) j
-  moving-on d list i j m apart t =
+  pub moving-on : (d a : A) (list : List A) (i j : ℕ) → Moving n seen new before list a i → (i ≡ new → ⊥) → Toward i new j → Moving n seen new before (set list i (getD list j d)) a j
+  moving-on d a list i j m apart t =
       record {
         full = m .full;
+        long = length-set list i (getD list j d) ∙ m .long;
         from = m .from;
         to = m .to;
         here = omega (arith, m, t .near);
-        so-far = ap (exchanged d i j) (m .so-far) ∙ go (side i new j t apart);
+        so-far =
+            step-exchanged d a list i j (omega (arith, m .here, m .long)) (other (side i new j t apart))
+            ∙ ap (exchanged d i j) (m .so-far)
+            ∙ go (side i new j t apart);
       }
     where
+      other : Side i new j → j ≡ i → ⊥
+      other (above h e) z = omega arith
+      other (below h e) z = omega arith
+
       go : Side i new j → exchanged d i j (moved seen i before) ≡ moved seen j before
       go (above h e) = rw e (moved-up d seen i before (omega (arith, m)) (omega (arith, m)))
       go (below h e) = rw e (moved-down d seen j before (omega (arith, m)) (omega (arith, m)))
 
-  pub moving-end : (list : List A) (i : ℕ) → Moving n seen new before list i → i ≡ new → list ≡ moved seen new before
-  moving-end list i m e = rw (← e) (m .so-far)
+  pub moving-end : (a : A) (list : List A) (i : ℕ) → Moving n seen new before list a i → i ≡ new → set list i a ≡ moved seen new before
+  moving-end a list i m e = m .so-far ∙ ap (λ (k : ℕ). moved seen k before) e
 
 -- The list of simplices with its items moved, or left as they are.
 module _ (l : SimplexList) (n seen new : ℕ) (size : n ≡ length (simplicesOf l)) where

@@ -163,15 +163,15 @@ impl SimplexList {
         if n <= new {
             return self;
         }
+        let s = self.items[seen];
         let mut i = seen;
         while i != new {
             let next = toward(i, new);
-            let s = self.items[i];
             let t = self.items[next];
             self.items[i] = t;
-            self.items[next] = s;
             i = next;
         }
+        self.items[i] = s;
         self
     }
 }
@@ -196,15 +196,15 @@ impl Marks {
         if SimplexList::LIMIT <= new {
             return self;
         }
+        let a = self.on[seen];
         let mut i = seen;
         while i != new {
             let j = toward(i, new);
-            let a = self.on[i];
             let b = self.on[j];
             self.on[i] = b;
-            self.on[j] = a;
             i = j;
         }
+        self.on[i] = a;
         self
     }
 }
