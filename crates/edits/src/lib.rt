@@ -248,7 +248,7 @@ fn take_edits(
     }
 }
 
-// Reads the edits from a place to the end of the file. Where there are none, the complex goes on as it is, without a copy.
+// Reads the edits from a place to the end of the file. Where there are none, the complex goes on in one piece.
 pub fn read_edits(job: &[u8], at: usize, complex: Complex, marks: Marks, dim: usize) -> EditsRead
     ensures { λ r. ⌜ EditsTaken (now (job .entry)) at dim complex marks r ⌝ }
 {
