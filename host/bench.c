@@ -1,8 +1,8 @@
 /*
  * How long an answer takes: the whole call, reading included, against the plain
  * C of the checker (reading included) and against PHAT's reduction of the same
- * matrix (no reading, and PHAT looks for no filling).  Then, in a second table, how
- * long reading alone takes.
+ * matrix, or of the whole complex's (no reading, and PHAT looks for no filling).
+ * Then, in a second table, how long reading alone takes.
  *
  *   bench [ROUNDS]
  *
@@ -61,17 +61,17 @@ static double time_plain(const struct draft_job *job, struct answer *answer)
     return now() - begin;
 }
 
-static double time_phat(const struct shape *shape, bool *bounds)
+static double time_phat(const struct shape *shape, enum phat_matrix which, bool *bounds)
 {
-    double standard = phat_reduce(shape, PHAT_STANDARD, bounds);
-    double twist = phat_reduce(shape, PHAT_TWIST, bounds);
+    double standard = phat_reduce(shape, which, PHAT_STANDARD, bounds);
+    double twist = phat_reduce(shape, which, PHAT_TWIST, bounds);
     return standard < twist ? standard : twist;
 }
 
 /* ---- one row ---- */
 
 struct times {
-    double library, writing, plain, phat;
+    double library, writing, plain, phat, whole;
 };
 
 static void insist_on_one_answer(const struct answer *a, const struct answer *b, bool bounds)
@@ -87,16 +87,18 @@ static void insist_on_one_answer(const struct answer *a, const struct answer *b,
 static struct times measure(const struct shape *shape, unsigned rounds)
 {
     static struct draft_job job;
-    struct times best = {1e9, 1e9, 1e9, 1e9};
+    struct times best = {1e9, 1e9, 1e9, 1e9, 1e9};
     shape_job(shape, &job);
     for (unsigned i = 0; i < rounds; i++) {
         struct answer by_library, by_plain;
-        bool bounds;
+        bool bounds, bounds_in_whole;
         keep_best(&best.library, time_library(&job, &by_library));
         keep_best(&best.writing, time_writing(&job));
         keep_best(&best.plain, time_plain(&job, &by_plain));
-        keep_best(&best.phat, time_phat(shape, &bounds));
+        keep_best(&best.phat, time_phat(shape, PHAT_ASKED, &bounds));
+        keep_best(&best.whole, time_phat(shape, PHAT_WHOLE, &bounds_in_whole));
         insist_on_one_answer(&by_library, &by_plain, bounds);
+        insist_on_one_answer(&by_library, &by_plain, bounds_in_whole);
     }
     return best;
 }
@@ -106,9 +108,10 @@ static struct times measure(const struct shape *shape, unsigned rounds)
 static void print_row(const char *name, const struct shape *shape, struct times t,
                       const struct times *smaller)
 {
-    printf("%-18s %4u %5u %9.1f %9.1f %9.1f %9.1f %7.2f %8.2f", name, shape->triangles,
-           shape->edges, t.library * 1e6, t.writing * 1e6, t.plain * 1e6, t.phat * 1e6,
-           t.library / t.plain, t.library / t.phat);
+    printf("%-16s %4u %5u %8.1f %7.1f %8.1f %7.1f %7.1f %6.2f %8.2f %9.2f", name,
+           shape->triangles, shape->edges, t.library * 1e6, t.writing * 1e6, t.plain * 1e6,
+           t.phat * 1e6, t.whole * 1e6, t.library / t.plain, t.library / t.phat,
+           t.library / t.whole);
     if (smaller != NULL)
         printf(" %7.2f", t.library / smaller->library);
     printf("\n");
@@ -120,11 +123,14 @@ static void print_heading(unsigned rounds)
            "library  the whole answer call, reading included\n"
            "write    the whole write call: reading, and no search\n"
            "plain C  the checker's reading and elimination\n"
-           "PHAT     its reduction alone, the better of standard and twist\n"
+           "PHAT     its reduction alone, of the triangles' boundaries, as the library's;\n"
+           "         the better of standard and twist\n"
+           "whole    the same of the whole complex, edges too, as PHAT's own program takes it\n"
            "growth   the library's time over its time one row up\n\n",
            rounds);
-    printf("%-18s %4s %5s %9s %9s %9s %9s %7s %8s %7s\n", "shape", "tri", "edges", "library",
-           "write", "plain C", "PHAT", "lib/C", "lib/PHAT", "growth");
+    printf("%-16s %4s %5s %8s %7s %8s %7s %7s %6s %8s %9s %7s\n", "shape", "tri", "edges",
+           "library", "write", "plain C", "PHAT", "whole", "lib/C", "lib/PHAT", "lib/whole",
+           "growth");
 }
 
 static void print_answer_table(unsigned rounds)
@@ -132,7 +138,7 @@ static void print_answer_table(unsigned rounds)
     static struct shape shape;
     print_heading(rounds);
     for (unsigned i = 0; i < bench_job_count; i++) {
-        struct times before = {0, 0, 0, 0};
+        struct times before = {0, 0, 0, 0, 0};
         if (bench_jobs[i].make_shape == NULL)
             continue; /* no surface, so nothing for PHAT */
         for (unsigned size = 0; size < SIZES; size++) {

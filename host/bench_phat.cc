@@ -13,28 +13,47 @@ namespace {
 
 using Matrix = phat::boundary_matrix<phat::bit_tree_pivot_column>;
 
-/* Edges are columns with nothing in them; only the asked dimension is reduced. */
-Matrix matrix_of(const shape *shape)
+/* The columns of a simplex's facets, in rising order. */
+template <typename Facets>
+phat::column column_of(const Facets &facets, phat::index first_row)
+{
+    phat::column column;
+    for (phat::index facet : facets)
+        column.push_back(first_row + facet);
+    std::sort(column.begin(), column.end());
+    return column;
+}
+
+/*
+ * First the vertices, then the edges, the triangles and the rim.  A column stands for
+ * a row too, so what has no boundary here still has its empty column.
+ */
+Matrix matrix_of(const shape *shape, phat_matrix which)
 {
     Matrix matrix;
-    const phat::index edges = shape->edges, triangles = shape->triangles;
-    matrix.set_num_cols(edges + triangles + 1);
+    const phat::index edges = which == PHAT_WHOLE ? shape->vertices : 0;
+    const phat::index triangles = edges + shape->edges;
+    const phat::index rim = triangles + shape->triangles;
+    matrix.set_num_cols(rim + 1);
     for (phat::index i = 0; i < edges; i++) {
-        matrix.set_dim(i, 1);
+        matrix.set_dim(i, 0);
         matrix.set_col(i, phat::column());
     }
-    for (phat::index t = 0; t < triangles; t++) {
-        phat::column column(shape->side[t], shape->side[t] + 3);
-        std::sort(column.begin(), column.end());
-        matrix.set_dim(edges + t, 2);
-        matrix.set_col(edges + t, column);
+    for (phat::index i = 0; i < shape->edges; i++) {
+        matrix.set_dim(edges + i, 1);
+        matrix.set_col(edges + i,
+                       which == PHAT_WHOLE ? column_of(shape->edge[i], 0) : phat::column());
     }
-    phat::column rim;
-    for (phat::index i = 0; i < edges; i++)
+    for (phat::index i = 0; i < shape->triangles; i++) {
+        matrix.set_dim(triangles + i, 2);
+        matrix.set_col(triangles + i, column_of(shape->side[i], edges));
+    }
+    phat::column in_rim;
+    for (phat::index i = 0; i < shape->edges; i++)
         if (shape->in_rim[i])
-            rim.push_back(i);
-    matrix.set_dim(edges + triangles, 2);
-    matrix.set_col(edges + triangles, rim);
+            in_rim.push_back(edges + i);
+    matrix.set_dim(rim, 2);
+    matrix.set_col(rim, in_rim);
     return matrix;
 }
 
@@ -50,11 +69,12 @@ double seconds_of(Matrix &matrix)
 
 }  // namespace
 
-double phat_reduce(const struct shape *shape, enum phat_way way, bool *bounds)
+double phat_reduce(const struct shape *shape, enum phat_matrix which, enum phat_way way,
+                   bool *bounds)
 {
-    Matrix matrix = matrix_of(shape);
+    Matrix matrix = matrix_of(shape, which);
     const double seconds = way == PHAT_STANDARD ? seconds_of<phat::standard_reduction>(matrix)
                                                 : seconds_of<phat::twist_reduction>(matrix);
-    *bounds = matrix.is_empty(shape->edges + shape->triangles);
+    *bounds = matrix.is_empty(matrix.get_num_cols() - 1);
     return seconds;
 }

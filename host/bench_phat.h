@@ -11,11 +11,19 @@ extern "C" {
 enum phat_way { PHAT_STANDARD, PHAT_TWIST };
 
 /*
- * Reduces the triangles' boundary matrix with the rim as its last column, and
- * hands back the seconds of the reduction alone.  `bounds` says whether the rim
- * was reduced to nothing, so whether it has a filling; PHAT keeps no filling.
+ * PHAT_ASKED has what the library reduces: the triangles' boundaries, in rows of
+ * edges.  PHAT_WHOLE has the edges' boundaries too, in rows of vertices: the matrix
+ * of the whole complex, as PHAT's own program takes it.
  */
-double phat_reduce(const struct shape *shape, enum phat_way way, bool *bounds);
+enum phat_matrix { PHAT_ASKED, PHAT_WHOLE };
+
+/*
+ * Reduces a boundary matrix of the shape with the rim as its last column, and hands
+ * back the seconds of the reduction alone.  `bounds` says whether the rim was reduced
+ * to nothing, so whether it has a filling; PHAT keeps no filling.
+ */
+double phat_reduce(const struct shape *shape, enum phat_matrix which, enum phat_way way,
+                   bool *bounds);
 
 #ifdef __cplusplus
 }
