@@ -4,7 +4,7 @@ use Prim.Native.Nat.{ℕ, zero, suc, _+_, _*_, _/_, _%_, _≤_, _<_}
 use mathlib.Core.Path.{_≡_, refl, sym, ap, ap₂, _∙_, fun-ext}
 use mathlib.Core.Bool.{Bool, false}
 use mathlib.Core.List.{List, _∷_, _++_, append-nil}
-use native.Mathlib.Nat.{zero-add, suc-mul, mul-le-mul-right}
+use native.Mathlib.Nat.{zero-add}
 use native.Mathlib.Omega.{arith}
 use native.Mathlib.Decide.{decLt, ℕ-discrete}
 use lib.Dec.{eqb}
@@ -15,7 +15,7 @@ use Rattle.chains.specs.Chain.{Chain, differ, _⊕_, empty, unit}
 use Rattle.chains.specs.Sum.{differ-false}
 use Rattle.columns.specs.Column.{bit, bitAt, chainOf, flipped, clearedFront}
 use Rattle.columns.specs.ColumnLaws.{chainOf-zeros, chainOf-under, chainOf-flipped}
-use Rattle.columns.specs.Slot.{halfR, halfV, chainR, chainV, slot, occupiedAt}
+use Rattle.columns.specs.Slot.{halfR, halfV, chainR, chainV}
 use Rattle.columns.specs.SlotLaws.{bit-halfR}
 
 -- ---- which bit is which
@@ -115,35 +115,6 @@ unfolding halfV
 halfV-zeros h n =
     let d = drop-zeros h n in
     ap (λ (l : List ℕ). chainOf (take h l)) (d .1) ∙ ap chainOf (take-zeros h (d .0) .1) ∙ chainOf-zeros (take-zeros h (d .0) .0)
-
--- in cleared work memory each slot is zeros, so none is occupied
-slot-zeros : (h n r : ℕ) → (m : ℕ) × (slot h (replicate n 0) r ≡ replicate m 0)
-unfolding slot
-slot-zeros h n r =
-    let d = drop-zeros (r * (2 * h)) n in
-    (take-zeros (2 * h) (d .0) .0, ap (take (2 * h)) (d .1) ∙ take-zeros (2 * h) (d .0) .1)
-
-pub slotR-zeros : (h n r : ℕ) → chainR h (slot h (replicate n 0) r) ≡ empty
-slotR-zeros h n r = ap (chainR h) (slot-zeros h n r .1) ∙ halfR-zeros h (slot-zeros h n r .0)
-
-pub slotV-zeros : (h n r : ℕ) → chainV h (slot h (replicate n 0) r) ≡ empty
-slotV-zeros h n r = ap (chainV h) (slot-zeros h n r .1) ∙ halfV-zeros h (slot-zeros h n r .0)
-
-pub vacant-zeros : (h n r : ℕ) → occupiedAt h (replicate n 0) r ≡ false
-vacant-zeros h n r = ap (λ (c : Chain). c r) (slotR-zeros h n r)
-
--- in memory whose front is cleared, so is each slot of the front
-front-zeros : (j i k : ℕ) (rest : List ℕ) → j + i ≤ k → take i (drop j (replicate k 0 ++ rest)) ≡ replicate i 0
-front-zeros zero zero k rest h = refl
-front-zeros zero (suc i) zero rest h = absurd (omega arith)
-front-zeros zero (suc i) (suc k) rest h = ap (_∷_ 0) (front-zeros zero i k rest (omega arith))
-front-zeros (suc j) i zero rest h = absurd (omega arith)
-front-zeros (suc j) i (suc k) rest h = front-zeros j i k rest (omega arith)
-
-pub slot-front : (h m r : ℕ) (work : List ℕ) → r < m → slot h (clearedFront (m * (2 * h)) work) r ≡ replicate (2 * h) 0
-unfolding slot
-slot-front h m r work lt =
-    front-zeros (r * (2 * h)) (2 * h) (m * (2 * h)) _ (omega (arith, mul-le-mul-right (2 * h) lt, suc-mul r (2 * h)))
 
 -- where all bytes are in front, all are zero
 pub front-all : (n : ℕ) (l : List ℕ) → length l ≡ n → clearedFront n l ≡ replicate (length l) 0

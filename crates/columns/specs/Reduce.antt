@@ -76,6 +76,13 @@ slotColumns h work r = chainV h (slot h work r)
 abbrev pub occupiedOnly : (ℕ → Chain) → (ℕ → Chain) → ℕ → Chain
 occupiedOnly R W r = only (R r r) (W r)
 
+-- The slots as the reduction sees them: a slot that does not hold its own row counts as empty, whatever its bytes are.
+abbrev pub keptRows : ℕ → List ℕ → ℕ → Chain
+keptRows h work = occupiedOnly (slotRows h work) (slotRows h work)
+
+abbrev pub keptColumns : ℕ → List ℕ → ℕ → Chain
+keptColumns h work = occupiedOnly (slotRows h work) (slotColumns h work)
+
 -- c reduced by the slots R, over the rows below r
 unfoldable pub red : (ℕ → Chain) → ℕ → Chain → Chain
 red R zero c = c

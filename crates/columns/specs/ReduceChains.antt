@@ -12,7 +12,7 @@ use Rattle.columns.specs.Column.{xorBytes}
 use Rattle.columns.specs.ColumnLaws.{length-xor}
 use Rattle.columns.specs.Slot.{roomOf, chainR, chainV, slot, occupiedAt}
 use Rattle.columns.specs.SlotLaws.{length-slot, chainR-xor, chainV-xor}
-use Rattle.columns.specs.Reduce.{heldAt, pick, redRow, redBytes, Settles, slotRows, slotColumns, occupiedOnly, red, gather, Ends}
+use Rattle.columns.specs.Reduce.{heldAt, pick, redRow, redBytes, Settles, slotRows, slotColumns, occupiedOnly, keptRows, keptColumns, red, gather, Ends}
 use Rattle.columns.specs.ReduceLaws.{length-row, row-add, row-not-held, row-vacant, unstuck-occupied, stuck-held, stuck-vacant, by-rows, by-settling}
 use Rattle.columns.specs.declared.Highest.{Highest}
 
@@ -28,47 +28,57 @@ row-chain half h work r cur sum = go (heldAt h r cur) (occupiedAt h work r)
     go true false = sym (sum-empty (half cur))
     go false b = sym (sum-empty (half cur))
 
--- the slots that are occupied, as the reduction sees them
-abbrev pub rowsIn : ℕ → List ℕ → ℕ → Chain
-rowsIn h work = occupiedOnly (slotRows h work) (slotRows h work)
+-- ---- what counts of a slot: all that it holds, where it holds its own row, and else nothing
 
-abbrev pub columnsIn : ℕ → List ℕ → ℕ → Chain
-columnsIn h work = occupiedOnly (slotRows h work) (slotColumns h work)
+module _ (R : ℕ → Chain) (r : ℕ) where
+  pub kept-full : (W : ℕ → Chain) → R r r ≡ true → occupiedOnly R W r ≡ W r
+  kept-full W e = ap (λ (b : Bool). only b (W r)) e
+
+  pub kept-vacant : (W : ℕ → Chain) → R r r ≡ false → occupiedOnly R W r ≡ empty
+  kept-vacant W e = ap (λ (b : Bool). only b (W r)) e
+
+  -- so it counts as occupied where it is
+  pub kept-own : occupiedOnly R R r r ≡ R r r
+  kept-own = go (R r r) refl
+    where
+      go : (b : Bool) → R r r ≡ b → only b (R r) r ≡ b
+      go true e = e
+      go false e = refl
 
 module _ (h : ℕ) (work : List ℕ) (room : roomOf h ≤ length work) where
   -- ---- one row
 
   module _ (r : ℕ) (cur : List ℕ) (low : r < 8 * h) (whole : length cur ≡ 2 * h) where
-    pub chainR-row : chainR h (redRow h work r cur) ≡ chainR h cur ⊕ only (heldAt h r cur) (rowsIn h work r)
+    pub chainR-row : chainR h (redRow h work r cur) ≡ chainR h cur ⊕ only (heldAt h r cur) (keptRows h work r)
     chainR-row = row-chain (chainR h) h work r cur (chainR-xor h cur (slot h work r) whole (length-slot h work r low room))
 
-    pub chainV-row : chainV h (redRow h work r cur) ≡ chainV h cur ⊕ only (heldAt h r cur) (columnsIn h work r)
+    pub chainV-row : chainV h (redRow h work r cur) ≡ chainV h cur ⊕ only (heldAt h r cur) (keptColumns h work r)
     chainV-row = row-chain (chainV h) h work r cur (chainV-xor h cur (slot h work r) whole (length-slot h work r low room))
 
   -- ---- all rows: the first half is reduced, and the second gathers the columns of the slots that are added
 
   pub chainR-red : (n : ℕ) (cur : List ℕ) → n ≤ 8 * h → length cur ≡ 2 * h
-      → chainR h (redBytes h work n cur) ≡ red (rowsIn h work) n (chainR h cur)
+      → chainR h (redBytes h work n cur) ≡ red (keptRows h work) n (chainR h cur)
   unfolding redBytes red
   chainR-red zero cur l whole = refl
   chainR-red (suc n) cur l whole =
       chainR-red n (redRow h work n cur) (omega arith) (length-row h work n cur ∙ whole)
-      ∙ ap (red (rowsIn h work) n) (chainR-row n cur l whole)
+      ∙ ap (red (keptRows h work) n) (chainR-row n cur l whole)
 
   pub chainV-red : (n : ℕ) (cur : List ℕ) → n ≤ 8 * h → length cur ≡ 2 * h
-      → chainV h (redBytes h work n cur) ≡ gather (rowsIn h work) (columnsIn h work) n (chainR h cur) (chainV h cur)
+      → chainV h (redBytes h work n cur) ≡ gather (keptRows h work) (keptColumns h work) n (chainR h cur) (chainV h cur)
   unfolding redBytes gather
   chainV-red zero cur l whole = refl
   chainV-red (suc n) cur l whole =
       chainV-red n (redRow h work n cur) (omega arith) (length-row h work n cur ∙ whole)
-      ∙ ap₂ (gather (rowsIn h work) (columnsIn h work) n) (chainR-row n cur l whole) (chainV-row n cur l whole)
+      ∙ ap₂ (gather (keptRows h work) (keptColumns h work) n) (chainR-row n cur l whole) (chainV-row n cur l whole)
 
   -- ---- what is kept by the rows: P speaks of the rows that are left and of the two chains in hand
 
   module _ (P : ℕ → Chain → Chain → Type 0) (n : ℕ) (low : n ≤ 8 * h)
       (skip : (r : ℕ) (c v : Chain) → r < n → P (suc r) c v → c r ≡ false → P r c v)
-      (add : (r : ℕ) (c v : Chain) → r < n → P (suc r) c v → c r ≡ true → slotRows h work r r ≡ true
-      → P r (c ⊕ slotRows h work r) (v ⊕ slotColumns h work r)) where
+      (add : (r : ℕ) (c v : Chain) → r < n → P (suc r) c v → c r ≡ true → keptRows h work r r ≡ true
+      → P r (c ⊕ keptRows h work r) (v ⊕ keptColumns h work r)) where
     -- P of the chains that a pair of columns holds
     abbrev In : ℕ → List ℕ → Type 0
     In r c = (length c ≡ 2 * h) × P r (chainR h c) (chainV h c)
@@ -84,25 +94,29 @@ module _ (h : ℕ) (work : List ℕ) (room : roomOf h ≤ length work) where
         go false e = subst (In r) (sym (row-not-held h work r c e)) (p .0, skip r _ _ l (p .1) e)
         go true e = subst (In r) (sym (row-add h work r c e (free e))) (
           length-xor c (slot h work r) ∙ p .0,
-          subst₂ (P r) (sym (chainR-xor h c (slot h work r) (p .0) sized)) (sym (chainV-xor h c (slot h work r) (p .0) sized))
-              (add r _ _ l (p .1) e (free e)),
+          subst₂ (P r)
+              (ap (λ (x : Chain). chainR h c ⊕ x) (kept-full (slotRows h work) r (slotRows h work) (free e))
+              ∙ sym (chainR-xor h c (slot h work r) (p .0) sized))
+              (ap (λ (x : Chain). chainV h c ⊕ x) (kept-full (slotRows h work) r (slotColumns h work) (free e))
+              ∙ sym (chainV-xor h c (slot h work r) (p .0) sized))
+              (add r _ _ l (p .1) e (kept-own (slotRows h work) r ∙ free e)),
         )
 
     -- the reduction that stops where it is stuck
     pub settle-chains : (cur : List ℕ) (answer : Highest) (left : List ℕ) → Settles h work n cur answer left
         → length cur ≡ 2 * h → P n (chainR h cur) (chainV h cur)
-        → Ends P (slotRows h work) answer (chainR h left) (chainV h left)
+        → Ends P (keptRows h work) answer (chainR h left) (chainV h left)
     settle-chains cur answer left s whole top =
-        subst₂ (λ (a : Highest) (l : List ℕ). Ends P (slotRows h work) a (chainR h l) (chainV h l))
+        subst₂ (λ (a : Highest) (l : List ℕ). Ends P (keptRows h work) a (chainR h l) (chainV h l))
         (sym (s .where-stuck)) (sym (s .what-left))
-        (by-settling h work In (λ t. Ends P (slotRows h work) (t .at) (chainR h (t .cur)) (chainV h (t .cur))) n cur
+        (by-settling h work In (λ t. Ends P (keptRows h work) (t .at) (chainR h (t .cur)) (chainV h (t .cur))) n cur
         (λ r c l p q. in-row r c l p (unstuck-occupied h work r c q))
-        (λ r c l p q. (p .1, stuck-held h work r c q, stuck-vacant h work r c q))
+        (λ r c l p q. (p .1, stuck-held h work r c q, kept-own (slotRows h work) r ∙ stuck-vacant h work r c q))
         (λ c p. p .1)
         (whole, top))
 
     -- the full reduction, which also goes past the rows where it is stuck
-    pub red-chains : ((r : ℕ) (c v : Chain) → r < n → P (suc r) c v → c r ≡ true → slotRows h work r r ≡ false → P r c v)
+    pub red-chains : ((r : ℕ) (c v : Chain) → r < n → P (suc r) c v → c r ≡ true → keptRows h work r r ≡ false → P r c v)
         → (cur : List ℕ) → length cur ≡ 2 * h → P n (chainR h cur) (chainV h cur)
         → P 0 (chainR h (redBytes h work n cur)) (chainV h (redBytes h work n cur))
     red-chains past cur whole top = by-rows h work In n cur row (whole, top) .1
@@ -112,24 +126,5 @@ module _ (h : ℕ) (work : List ℕ) (room : roomOf h ≤ length work) where
           where
             go : (b : Bool) → occupiedAt h work r ≡ b → (a : Bool) → heldAt h r c ≡ a → In r (redRow h work r c)
             go true e a f = in-row r c l p (λ q. e)
-            go false e true f = subst (In r) (sym (row-vacant h work r c e)) (p .0, past r _ _ l (p .1) f e)
+            go false e true f = subst (In r) (sym (row-vacant h work r c e)) (p .0, past r _ _ l (p .1) f (kept-own (slotRows h work) r ∙ e))
             go false e false f = subst (In r) (sym (row-vacant h work r c e)) (p .0, skip r _ _ l (p .1) f)
-
--- ---- slots that do not hold their own row are empty: then nothing need be masked
-
-module _ (R : ℕ → Chain) (n : ℕ) (vacant : (r : ℕ) → r < n → R r r ≡ false → R r ≡ empty) where
-  occupied-all : (r : ℕ) → r < n → occupiedOnly R R r ≡ R r
-  occupied-all r l = go (R r r) refl
-    where
-      go : (b : Bool) → R r r ≡ b → only b (R r) ≡ R r
-      go true e = refl
-      go false e = sym (vacant r l e)
-
-  pub red-all : (c : Chain) → red (occupiedOnly R R) n c ≡ red R n c
-  unfolding red
-  red-all c = below n c (omega arith)
-    where
-      below : (m : ℕ) (c : Chain) → m ≤ n → red (occupiedOnly R R) m c ≡ red R m c
-      below zero c l = refl
-      below (suc m) c l = below m (c ⊕ only (c m) (occupiedOnly R R m)) (omega arith)
-          ∙ ap (λ (x : Chain). red R m (c ⊕ only (c m) x)) (occupied-all m l)

@@ -1,10 +1,10 @@
 -- The lent work memory is 8·h slots of 2·h bytes, for a half size h. A slot, like the column in hand, is two columns
 -- of h bytes: first R, the reduced column, then V, the set of original columns that R is the sum of. Slot r is for the
 -- reduced column whose highest rank is r.
-use Prim.Native.Nat.{ℕ, _+_, _*_}
+use Prim.Native.Nat.{ℕ, _+_, _*_, _/_}
 use mathlib.Core.Bool.{Bool}
 use mathlib.Core.List.{List, _++_}
-use lib.ListN.{take, drop}
+use lib.ListN.{take, drop, set}
 use Rattle.chains.specs.Chain.{Chain}
 use Rattle.columns.specs.Column.{bitAt, chainOf}
 
@@ -39,6 +39,11 @@ slotV h work r = halfV h (slot h work r)
 -- a slot is occupied when its reduced column holds the slot's own rank
 abbrev pub occupiedAt : ℕ → List ℕ → ℕ → Bool
 occupiedAt h work r = bitAt (slotR h work r) r
+
+-- The work memory after slot r was made vacant: the byte that holds the slot's own rank is zero. What else the slot
+-- holds stays, since a vacant slot is not read.
+unfoldable pub vacated : ℕ → List ℕ → ℕ → List ℕ
+vacated h work r = set work (r * (2 * h) + r / 8) 0
 
 -- the work memory with slot r replaced by the first 2·h bytes of cur
 unfoldable pub storeSlot : ℕ → List ℕ → ℕ → List ℕ → List ℕ

@@ -4,7 +4,7 @@ ghost use mathlib.Core.Path.{_≡_};
 ghost use Prim.Native.Nat.{_+_, _*_, _≤_, _<_};
 ghost use lib.ListN.{length, getD, take, replicate};
 ghost use Rattle.columns.specs.Column.{bitAt, chainOf, xorBytes, flipped, clearedFront};
-ghost use Rattle.columns.specs.Slot.{roomOf, slot, occupiedAt, storeSlot};
+ghost use Rattle.columns.specs.Slot.{roomOf, slot, occupiedAt, vacated, storeSlot};
 ghost use Rattle.columns.specs.Search.{highestBelow};
 ghost use Rattle.columns.specs.Reduce.{redBytes, Settles, Inserts};
 
@@ -98,6 +98,16 @@ pub fn occupied(work: &[u8], h: usize, r: usize) -> bool
 {
     let at = r * (2 * h) + r / 8;
     (work[at] >> (r % 8)) % 2 == 1
+}
+
+// Makes slot r vacant, by the one byte that says whether it is occupied.
+pub fn vacate(work: &mut [u8], h: usize, r: usize)
+    requires { ⌜ r < 8 * h ⌝ }
+    requires { ⌜ roomOf h ≤ length (now work) ⌝ }
+    ensures { λ _. ⌜ now (work .exit) ≡ vacated h (now (work .entry)) r ⌝ }
+{
+    let at = r * (2 * h) + r / 8;
+    work[at] = 0;
 }
 
 // Adds slot r to the pair of columns in hand.

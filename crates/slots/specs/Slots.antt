@@ -6,13 +6,14 @@ use mathlib.Core.List.{List}
 use Rattle.chains.specs.Chain.{Chain, empty, unit, Under, Fills, SmallestFilling, SmallestInClass}
 use Rattle.echelon.specs.Echelon.{Echelon}
 use Rattle.columns.specs.Slot.{chainR, chainV}
-use Rattle.columns.specs.Reduce.{slotRows, slotColumns}
+use Rattle.columns.specs.Reduce.{keptRows, keptColumns}
 use Rattle.slots.specs.declared.Filled.{Filled}
 use Rattle.slots.specs.declared.Filled.the-variants as filled
 
--- the first k of the n columns of D, each a chain of m rows, are in the slots of the work memory
+-- The first k of the n columns of D, each a chain of m rows, are in the slots of the work memory. A slot that does not
+-- hold its own row counts as empty, so this says nothing of the bytes of a vacant slot.
 abbrev pub SlotsIn : ℕ → List ℕ → (ℕ → Chain) → ℕ → ℕ → ℕ → Type 0
-SlotsIn h work D n m k = Echelon D n m k (slotRows h work) (slotColumns h work)
+SlotsIn h work D n m k = Echelon D n m k (keptRows h work) (keptColumns h work)
 
 -- no column is in the slots of m rows
 pub record Starts (h m : ℕ) (work : List ℕ) : Type 0 where

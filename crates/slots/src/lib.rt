@@ -7,18 +7,23 @@ ghost use Rattle.chains.specs.Chain.{Under};
 ghost use Rattle.columns.specs.Slot.{roomOf, chainR};
 ghost use Rattle.slots.specs.Slots.{Starts, PutsIn, FillsIn, ClassesIn};
 use columns::Highest;
-use columns::clear_front;
 use columns::insert;
 use columns::reduce;
 use columns::settle;
+use columns::vacate;
 
-// Makes the slots of the first `rows` rows vacant; no other is used.
+// Makes the slots of the first `rows` rows vacant; no other is used. What else the memory holds may
+// stay, since a vacant slot is not read.
 pub fn start(work: &mut [u8], h: usize, rows: usize)
     requires { ⌜ rows ≤ 8 * h ⌝ }
     requires { ⌜ roomOf h ≤ length (now work) ⌝ }
     ensures { λ _. ⌜ Starts h rows (now (work .exit)) ⌝ }
 {
-    clear_front(work, rows * (2 * h));
+    let mut r = 0;
+    while r < rows {
+        vacate(work, h, r);
+        r += 1;
+    }
 }
 
 // Puts the next column into the slots: the pair in hand is its boundary, which holds no row from `top`

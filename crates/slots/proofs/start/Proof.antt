@@ -1,31 +1,57 @@
--- `start` clears the slots of the rows, and cleared slots are vacant.
+-- `start` makes one slot after the other vacant: at row r those of the rows below are (`Vacating`).
 -- Assumes nothing.
+use Prim.Native.Nat.{_-_}
 use native.Mathlib.Omega.{arith}
-use Rattle.slots.specs.Laws.{starts, slot-fits, rows-fit}
+use Rattle.slots.specs.Laws.{Vacating, vacating-none, vacating-more, vacating-all}
 use borrow.Author.Needs.{needs}
 use Rattle.slots.proofs.start.Statement.{statement}
 use Rattle.slots.proofs.start.Tie as tie
 
-mul-clear-front : tie.Need-mul-clear-front
-mul-clear-front c = record { fits = omega (arith, slot-fits (c .before .before .args .h), c .before .before .pre .1, c .before .before .good .0 .0) }
+abbrev Inv-loop : tie.InvT-loop
+Inv-loop work₀ h rows r₀ work r = Vacating h work₀ r work
 
-mul-clear-front-2 : tie.Need-mul-clear-front-2
-mul-clear-front-2 c = record { fits = omega (arith, rows-fit (c .before .before .args .h) (c .before .before .args .rows) (c .before .before .pre .0), c .before .before .pre .1, c .before .before .good .0 .0) }
+abbrev μ-loop : tie.MeasureT-loop
+μ-loop work₀ h rows r₀ work r = rows - r
 
-clear-front-requires : tie.Need-clear-front-requires
-clear-front-requires c κs =
-    let start = c .before .before in
-    omega (arith, rows-fit (start .args .h) (start .args .rows) (start .pre .0), start .pre .1)
+loop-holds : tie.Need-loop-holds Inv-loop μ-loop
+loop-holds c = vacating-none _ _
 
-same-length : tie.Need-same-length
-same-length c = search needs
+vacate-requires : tie.Need-vacate-requires Inv-loop μ-loop
+vacate-requires c κs =
+    let head = c .before .before in
+    let start = head .before .before in
+    (omega (arith, c .before .loop-test .taken, start .pre .0), omega (arith, head .loop .inv .long, start .pre .1))
 
-returns : tie.Need-returns
-returns c =
+add-r : tie.Need-add-r Inv-loop μ-loop
+add-r c = search needs
+
+loop-less : tie.Need-loop-less Inv-loop μ-loop
+loop-less c = search needs
+
+loop-again : tie.Need-loop-again Inv-loop μ-loop
+loop-again c =
     let done = c .before .before in
-    let start = done .before .before .before in
-    starts (start .args .work .now) (start .args .rows) (done .clear-front .ensures)
+    let head = done .before .before .before in
+    let start = head .before .before in
+    vacating-more (head .loop .inv) (omega (arith, done .before .before .loop-test .taken, start .pre .0)) (start .pre .1)
+    (done .vacate .ensures) (done .vacate .kept .0)
+
+same-length : tie.Need-same-length Inv-loop μ-loop
+same-length c = c .before .loop .inv .long
+
+returns : tie.Need-returns Inv-loop μ-loop
+returns c = vacating-all (c .before .loop .inv) (c .loop-test .left)
 
 pub start-spec : {M : Type 1} → statement M
 start-spec =
-    tie.close (tie.spec mul-clear-front mul-clear-front-2 clear-front-requires same-length returns)
+    tie.close
+    (tie.spec
+    Inv-loop
+    μ-loop
+    loop-holds
+    vacate-requires
+    add-r
+    loop-less
+    loop-again
+    same-length
+    returns)
