@@ -1,50 +1,56 @@
--- The lists of a sound complex: they stand over one another, and are few enough for the work memory, as their members are
+-- The lists that lent arrays hold, as the matrix that the solver asks for; and that the members of an answer are few enough
 -- for the output.
 use Prim.Native.Nat.{ℕ, zero, suc, _+_, _-_, _≤_, _<_}
-use mathlib.Core.Path.{_≡_, sym, _∙_, ap, subst}
+use mathlib.Core.Path.{_≡_, refl, sym, _∙_, ap, subst, subst₂, subst₃}
+use mathlib.Core.Bool.{Bool, true, false, cond}
 use mathlib.Core.List.{List, [], _∷_}
 use native.Mathlib.Omega.{arith}
 use native.Mathlib.Numerals.{add-one, sub-one}
 use lib.ListN.{length}
+use lib.Dec.{eqb}
 use Rattle.chains.specs.Chain.{Chain}
 use Rattle.format.specs.Numbers.{small, answerKind}
-use Rattle.format.specs.Simplex.{Simplex, Complex, simplices, lower}
+use Rattle.format.specs.Simplex.{Simplex, Complex, simplices, lower, vertexList}
 use Rattle.format.specs.Answer.{members, verticesOf, recordOf, chainRecord}
 use Rattle.format.specs.Sound.{SoundComplex}
 use Rattle.format.specs.Marks.{vertices-once}
 use Rattle.format.specs.Vertices.{length-vertices, vertex-at}
 use Rattle.format.specs.Members.{members-listed, members-few, simplices-sound}
-use Rattle.lookup.specs.Indexed.{Proper}
+use Rattle.lookup.specs.Indexed.{Proper, Keyed, Indexed}
 use Rattle.lookup.specs.IndexLaws.{proper-none, sound-proper}
-use Rattle.solver.specs.Columns.{Over}
+use Rattle.lookup.specs.Numbered.{simplicesIn}
+use Rattle.lent_lists.specs.Held.{complexIn, Held}
+use Rattle.lent_lists.specs.HeldLaws.{few-simplices}
+use Rattle.lent_lists.specs.declared.Counts.{Counts}
+use Rattle.lists.specs.declared.Marks.{Marks}
+use Rattle.solver.specs.Columns.{RowsIn, MatrixIn}
+use Rattle.solver.specs.Solved.{RimTold, no-rim}
 use Rattle.writer.specs.Normal.{list-bytes}
 use Rattle.answers.specs.Meaning.{memberBytes, chainBytes}
+use Rattle.answering.specs.Meaning.{ofDimension, linksOf}
 
 -- below the vertices there is no list; below dimension k stands the list of dimension k - 1
-pub lower-none : (X : Complex) (dim : ℕ) → dim ≡ 0 → [] ≡ lower X dim
+pub lower-none : (X : Complex) (dim : ℕ) → dim ≡ 0 → lower X dim ≡ []
 unfolding lower
 lower-none X dim e = rw e
 
-pub lower-list : (X : Complex) (dim : ℕ) → 0 < dim → simplices X (dim - 1) ≡ lower X dim
+pub lower-list : (X : Complex) (dim : ℕ) → 0 < dim → lower X dim ≡ simplices X (dim - 1)
 unfolding lower
 lower-list X zero h = absurd (omega arith)
-lower-list X (suc k) h = ap (simplices X) (sub-one (suc k))
+lower-list X (suc k) h = ap (simplices X) (sym (sub-one (suc k)))
 
-pub few-simplices : (X : Complex) → SoundComplex small X → (k : ℕ) → length (simplices X k) ≤ 512
-unfolding simplices
-few-simplices X sound zero = omega (arith, length-vertices (X .v), sound .vertices)
-few-simplices X sound (suc zero) = sound .few-edges
-few-simplices X sound (suc (suc zero)) = sound .few-triangles
-few-simplices X sound (suc (suc (suc zero))) = sound .few-tetrahedra
-few-simplices X sound (suc (suc (suc (suc k)))) = omega arith
+-- so the rim of a chain is looked for there
+pub rim-none : (X : Complex) (dim : ℕ) (marks : Marks) → dim ≡ 0 → RimTold (lower X dim) (simplices X dim) marks true
+rim-none X dim marks e = subst (λ (l : List Simplex). RimTold l (simplices X dim) marks true) (sym (lower-none X dim e)) (no-rim (simplices X dim) marks)
 
-pub few-lower : (X : Complex) → SoundComplex small X → (k : ℕ) → length (lower X k) ≤ 512
-unfolding lower
-few-lower X sound zero = omega arith
-few-lower X sound (suc k) = few-simplices X sound k
+pub rim-below : (X : Complex) (dim : ℕ) {marks : Marks} {r : Bool} → 0 < dim
+    → RimTold (simplices X (dim - 1)) (simplices X (dim - 1 + 1)) marks r → RimTold (lower X dim) (simplices X dim) marks r
+rim-below X dim {marks} {r} some told =
+    let up : dim - 1 + 1 ≡ dim = omega arith in
+    subst₂ (λ (l : List Simplex) (k : ℕ). RimTold l (simplices X k) marks r) (sym (lower-list X dim some)) up told
 
 -- the simplices of dimension k have k + 1 vertices each, and none stands twice
-proper-list : (X : Complex) → SoundComplex small X → (k : ℕ) → Proper (suc k) (simplices X k)
+pub proper-list : (X : Complex) → SoundComplex small X → (k : ℕ) → Proper (suc k) (simplices X k)
 unfolding simplices
 proper-list X sound zero = record {
   wide = λ i lt. ap length (vertex-at (X .v) i (omega (arith, length-vertices (X .v))));
@@ -55,24 +61,95 @@ proper-list X sound (suc (suc zero)) = sound-proper (sound .triangles)
 proper-list X sound (suc (suc (suc zero))) = sound-proper (sound .tetrahedra)
 proper-list X sound (suc (suc (suc (suc k)))) = proper-none (suc (suc (suc (suc (suc k)))))
 
--- so each list stands over the one below it, and the vertices, which have no boundary, over the list that is none
-pub over-list : (X : Complex) → SoundComplex small X → (k : ℕ) → Over (simplices X k) (simplices X (k + 1))
-over-list X sound k = record {
-  width = suc k;
-  some = omega arith;
-  proper = proper-list X sound k;
-  wider = λ i lt long. proper-list X sound (k + 1) .wide i lt ∙ ap suc (add-one k);
-}
+ap₃ : {A B C D : Type 0} (f : A → B → C → D) {a a′ : A} {b b′ : B} {c c′ : C} → a ≡ a′ → b ≡ b′ → c ≡ c′ → f a b c ≡ f a′ b′ c′
+ap₃ f p q r = rw (p, q, r) refl
 
-pub over-lower : (X : Complex) → SoundComplex small X → (k : ℕ) → Over (lower X k) (simplices X k)
-unfolding lower
-over-lower X sound zero = record {
-  width = 1;
-  some = omega arith;
-  proper = proper-none 1;
-  wider = λ i lt long. absurd (omega (arith, long, proper-list X sound zero .wide i lt));
-}
-over-lower X sound (suc k) = subst (λ n. Over (simplices X k) (simplices X n)) (add-one k) (over-list X sound k)
+-- as many vertices as there are of dimension 0 are all of them
+pub vertices-are : (X : Complex) (dim m : ℕ) → dim ≡ 0 → m ≡ length (simplices X dim) → vertexList m ≡ simplices X dim
+unfolding simplices
+vertices-are X dim m e is = ap vertexList (is ∙ ap (λ (d : ℕ). length (simplices X d)) e ∙ length-vertices (X .v)) ∙ ap (simplices X) (sym e)
+
+-- THE MATRIX of a dimension's list over the one below it, as the arrays hold it.
+module _ {v : ℕ} {c : Counts} {eKeys eFirst eNext tKeys tFirst tNext sKeys : List ℕ}
+    (held : Held v c eKeys eFirst eNext tKeys tFirst tNext sKeys) where
+  abbrev X : Complex
+  X = complexIn v c eKeys tKeys sKeys
+
+  pub rows-in : (dim m : ℕ) → dim ≤ 2 → m ≡ length (simplices X dim)
+      → RowsIn (suc dim) (simplices X dim) (ofDimension dim eKeys tKeys sKeys) (linksOf dim eFirst tFirst) (linksOf dim eNext tNext) m
+  unfolding simplices
+  rows-in zero m le e = record {
+    proper = proper-list X (held .sound) 0;
+    count = e;
+    vertices = λ _. sym (vertices-are X 0 m refl e);
+    indexed = λ lt. absurd (omega arith);
+  }
+  rows-in (suc zero) m le e = record {
+    proper = proper-list X (held .sound) 1;
+    count = e;
+    vertices = λ one. absurd (omega arith);
+    indexed = λ _. subst (Indexed (X .edges) eKeys eFirst eNext) (held .edges .keyed .count ∙ sym e) (held .edges);
+  }
+  rows-in (suc (suc zero)) m le e = record {
+    proper = proper-list X (held .sound) 2;
+    count = e;
+    vertices = λ one. absurd (omega arith);
+    indexed = λ _. subst (Indexed (X .triangles) tKeys tFirst tNext) (held .triangles .keyed .count ∙ sym e) (held .triangles);
+  }
+  rows-in (suc (suc (suc k))) m le e = absurd (omega arith)
+
+  -- of the dimensions from 1 on, the numbers are the list's own
+  pub columns-in : (dim n : ℕ) → 0 < dim → dim ≤ 3 → n ≡ length (simplices X dim) → Keyed (simplices X dim) (ofDimension dim eKeys tKeys sKeys) n
+  unfolding simplices
+  columns-in zero n some le e = absurd (omega arith)
+  columns-in (suc zero) n some le e = subst (Keyed (X .edges) eKeys) (held .edges .keyed .count ∙ sym e) (held .edges .keyed)
+  columns-in (suc (suc zero)) n some le e = subst (Keyed (X .triangles) tKeys) (held .triangles .keyed .count ∙ sym e) (held .triangles .keyed)
+  columns-in (suc (suc (suc zero))) n some le e = subst (Keyed (X .tetrahedra) sKeys) (held .tetrahedra .count ∙ sym e) (held .tetrahedra)
+  columns-in (suc (suc (suc (suc k)))) n some le e = absurd (omega arith)
+
+  numbers-room : (dim : ℕ) → 512 ≤ length (ofDimension dim eKeys tKeys sKeys)
+  numbers-room dim = each (eqb dim 2) (eqb dim 3)
+    where
+      each : (x y : Bool) → 512 ≤ length (cond x tKeys (cond y sKeys eKeys))
+      each true y = held .roomy .triangles-room
+      each false true = held .roomy .tetrahedra-room
+      each false false = held .roomy .edges-room
+
+  -- and they stand for it: R is the array of the dimension, w its width
+  pub numbers-list : (dim w n : ℕ) {R : List ℕ} → R ≡ ofDimension dim eKeys tKeys sKeys → w ≡ suc dim → 0 < dim → dim ≤ 3
+      → n ≡ length (simplices X dim) → simplicesIn w R n ≡ simplices X dim
+  unfolding simplices
+  numbers-list zero w n r is some le e = absurd (omega arith)
+  numbers-list (suc zero) w n r is some le e = ap₃ simplicesIn is r (e ∙ sym (held .edges .keyed .count))
+  numbers-list (suc (suc zero)) w n r is some le e = ap₃ simplicesIn is r (e ∙ sym (held .triangles .keyed .count))
+  numbers-list (suc (suc (suc zero))) w n r is some le e = ap₃ simplicesIn is r (e ∙ sym (held .tetrahedra .count))
+  numbers-list (suc (suc (suc (suc k)))) w n r is some le e = absurd (omega arith)
+
+  pub numbers-fit : (dim n : ℕ) {R : List ℕ} → R ≡ ofDimension dim eKeys tKeys sKeys → n ≡ length (simplices X dim) → n ≤ length R
+  numbers-fit dim n r e = omega (arith, numbers-room dim, few-simplices X (held .sound) dim, ap length r)
+
+  -- the arrays K, F, N and R are those of the dimension
+  unfoldable pub matrix-in : (dim m n : ℕ) {K F N R : List ℕ} → K ≡ ofDimension dim eKeys tKeys sKeys → F ≡ linksOf dim eFirst tFirst
+      → N ≡ linksOf dim eNext tNext → R ≡ ofDimension (dim + 1) eKeys tKeys sKeys → dim ≤ 2 → m ≡ length (simplices X dim)
+      → n ≡ length (simplices X (dim + 1)) → MatrixIn 64 (dim + 2) K F N m R n
+  matrix-in dim m n k f next r le rows-are columns-are =
+      let low : suc dim ≡ dim + 2 - 1 = omega arith in
+      let two : suc (dim + 1) ≡ dim + 2 = omega arith in
+      record {
+        rows = simplices X dim;
+        high = simplices X (dim + 1);
+        below =
+            subst₃ (λ (K F N : List ℕ). RowsIn (dim + 2 - 1) (simplices X dim) K F N m) (sym k) (sym f) (sym next)
+            (subst (λ (w : ℕ). RowsIn w (simplices X dim) (ofDimension dim eKeys tKeys sKeys) (linksOf dim eFirst tFirst) (linksOf dim eNext tNext) m) low
+            (rows-in dim m le rows-are));
+        wide = subst (λ (w : ℕ). Proper w (simplices X (dim + 1))) two (proper-list X (held .sound) (dim + 1));
+        keyed = subst (λ (R : List ℕ). Keyed (simplices X (dim + 1)) R n) (sym r) (columns-in (dim + 1) n (omega arith) (omega arith) columns-are);
+        least = omega arith;
+        most = omega arith;
+        few-rows = few-simplices X (held .sound) dim;
+        few-columns = few-simplices X (held .sound) (dim + 1);
+        room = numbers-fit (dim + 1) n r columns-are;
+      }
 
 -- the bytes of a chain's members are their vertices
 member-bytes : (X : Complex) → SoundComplex small X → (k : ℕ) (c : Chain) → memberBytes c (simplices X k) ≡ verticesOf (members c (simplices X k))

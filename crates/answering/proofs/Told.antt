@@ -1,6 +1,6 @@
--- What the solver told about the lists and the marks, as an answer to the job that they stand for.
+-- What the solver told about the lists and the marks, as an answer to the job that the arrays hold.
 use Prim.Native.Nat.{ℕ, suc, pred, _+_, _≤_}
-use mathlib.Core.Path.{_≡_, refl, sym, _∙_, ap, ap₂, subst, subst₂, subst₃}
+use mathlib.Core.Path.{_≡_, refl, sym, _∙_, ap, ap₂, subst, subst₂}
 use mathlib.Core.Bool.{Bool, true, false}
 use mathlib.Core.List.{List}
 use native.Mathlib.Numerals.{add-one}
@@ -10,82 +10,101 @@ use borrow.Author.Tests.{eq-eqb, ne-eqb, leb-true}
 use lib.ListN.{length, getD}
 use Rattle.chains.specs.Chain.{Chain, empty, boundary, SmallestFilling, SmallestInClass, Fills}
 use Rattle.format.specs.Numbers.{small, rimOpen, noFilling}
-use Rattle.format.specs.Simplex.{Simplex, simplices, lower, columns}
+use Rattle.format.specs.Simplex.{Simplex, Complex, simplices, lower, columns}
 use Rattle.format.specs.Reading.{Job, Question, fill, class, questionOf, dimensionFits, chainDimension}
 use Rattle.format.specs.Listed.{and-true}
-use Rattle.format.specs.Answer.{rowDimension, rows, cols, matrix, askedChain, rim, FillAnswer, open-rim, unfilled, patch, ClassAnswer, AnswerTo, refusalRecord, chainRecord}
-use Rattle.format.specs.Sound.{SoundComplex}
-use Rattle.lists.specs.declared.Marks.{Marks}
-use Rattle.complexes.specs.Meaning.{complexOf, listOf, jobOf, Marked}
-use Rattle.complexes.specs.declared.Job as code-job
-use Rattle.jobs.specs.Meaning.{Readable}
-use Rattle.complexes.specs.declared.Complex as code
-use Rattle.solver.specs.Solved.{asked, rimOf, FillSays, ClassTold}
-use Rattle.solver.specs.declared.Solved.{Solved}
-use Rattle.solver.specs.declared.Solved.the-variants as solved
+use Rattle.format.specs.Answer.{rowDimension, rows, cols, matrix, askedChain, rim, FillAnswer, open-rim, unfilled, patch, AnswerTo, refusalRecord, chainRecord}
+use Rattle.lent_lists.specs.Held.{complexIn}
+use Rattle.jobs.specs.Meaning.{Asking, jobIn}
+use Rattle.jobs.specs.declared.NumbersRead.{NumbersRead}
+use Rattle.solver.specs.Solved.{asked, rimOf, RimTold, FillSays, ClassTold}
+use Rattle.slots.specs.declared.Filled.the-variants as filled
 use Rattle.writer.specs.Meaning.{Put}
 use Rattle.answers.specs.Meaning.{chainBytes}
-use Rattle.answering.specs.Meaning.{Answers, StandsFor}
+use Rattle.answering.specs.Meaning.{Answers}
 use Rattle.answering.proofs.Lists.{chain-bytes}
 
-module _ {X : code.Complex} {marks : Marks} {dim d : ℕ} {j : Job} (s : StandsFor X marks dim d j) where
+module _ {read : NumbersRead} {eKeys eFirst eNext tKeys tFirst tNext sKeys : List ℕ}
+    (k : Asking read eKeys eFirst eNext tKeys tFirst tNext sKeys) {dim : ℕ}
+    (dim-is : dim ≡ chainDimension (questionOf (read .head .question)) (read .head .d)) where
+  abbrev j : Job
+  j = jobIn read eKeys tKeys sKeys (k .set)
+
+  abbrev X : Complex
+  X = complexIn (read .head .v) (read .counts) eKeys tKeys sKeys
+
   -- the lists of the job are those of the complex
-  same-rows : rows j ≡ listOf X dim
-  same-rows = ap₂ simplices (s .complex-is) (s .dim-is)
+  same-rows : simplices X dim ≡ rows j
+  same-rows = ap (simplices X) dim-is
 
-  same-cols : cols j ≡ listOf X (dim + 1)
-  same-cols = ap₂ (λ Y k. simplices Y (suc k)) (s .complex-is) (s .dim-is) ∙ ap (listOf X) (sym (add-one dim))
+  same-cols : simplices X (dim + 1) ≡ cols j
+  same-cols = ap (simplices X) (add-one dim) ∙ ap (λ (n : ℕ). simplices X (suc n)) dim-is
 
-  same-lower : lower (j .complex) (rowDimension j) ≡ lower (complexOf X) dim
-  same-lower = ap₂ lower (s .complex-is) (s .dim-is)
+  same-lower : lower X dim ≡ lower X (rowDimension j)
+  same-lower = ap (lower X) dim-is
 
   -- A is the marked chain
-  same-asked : asked (rows j) marks ≡ askedChain j
-  same-asked = ap (λ m i. getD m i false) (s .marked .marks)
+  same-asked : asked (rows j) (read .marks) ≡ askedChain j
+  same-asked = ap (λ m i. getD m i false) (k .marks .marks)
 
-  same-rim : rimOf (lower (j .complex) (rowDimension j)) (rows j) marks ≡ rim j
-  same-rim = ap (boundary (columns (lower (j .complex) (rowDimension j)) (rows j)) (length (rows j))) same-asked
+  -- whether its rim is empty
+  module _ {closed : Bool} (told : RimTold (lower X dim) (simplices X dim) (read .marks) closed) where
+    same-rim : rimOf (lower X dim) (simplices X dim) (read .marks) ≡ rim j
+    same-rim =
+        ap₂ (λ (l r : List Simplex). rimOf l r (read .marks)) same-lower same-rows
+        ∙ ap (boundary (columns (lower X (rowDimension j)) (rows j)) (length (rows j))) same-asked
 
-  module _ {L R C : List Simplex} (l : L ≡ lower (complexOf X) dim) (r : R ≡ listOf X dim) (c : C ≡ listOf X (dim + 1)) where
-    says : (a : Solved) (x : Chain) → FillSays L R C marks a x → FillSays (lower (j .complex) (rowDimension j)) (rows j) (cols j) marks a x
-    says a x = subst₃ (λ L R C. FillSays L R C marks a x) (l ∙ sym same-lower) (r ∙ sym same-rows) (c ∙ sym same-cols)
+    rim-empty : closed ≡ true → rim j ≡ empty
+    rim-empty e = sym same-rim ∙ told .is-closed e
 
-    asks-fill : (answer : List ℕ) → j .question ≡ fill → FillAnswer j answer → AnswerTo j (j .question) answer
-    asks-fill answer q a = subst (λ x. AnswerTo j x answer) (sym q) a
+    module _ (q : questionOf (read .head .question) ≡ fill) where
+      asks-fill : (answer : List ℕ) → FillAnswer j answer → AnswerTo j (j .question) answer
+      asks-fill answer a = subst (λ x. AnswerTo j x answer) (sym q) a
 
-    pub answers-open : {before after : List ℕ} {count : ℕ} (x : Chain) → j .question ≡ fill → FillSays L R C marks solved.OpenRim x → Put before 0 (refusalRecord rimOpen 0) after count → Answers j before after count
-    answers-open x q told put =
-        record {
-          answer = refusalRecord rimOpen 0;
-          is = asks-fill _ q (open-rim (λ e. says solved.OpenRim x told (same-rim ∙ e)) refl);
-          put = put;
-        }
+      pub answers-open : {before after : List ℕ} {count : ℕ} → closed ≡ false → Put before 0 (refusalRecord rimOpen 0) after count
+          → Answers j before after count
+      answers-open e put = record {
+        answer = refusalRecord rimOpen 0;
+        is = asks-fill _ (open-rim (λ none. told .is-open e (same-rim ∙ none)) refl);
+        put = put;
+      }
 
-    pub answers-unfilled : {before after : List ℕ} {count : ℕ} (x : Chain) → j .question ≡ fill → FillSays L R C marks solved.NoFilling x → Put before 0 (refusalRecord noFilling 0) after count → Answers j before after count
-    answers-unfilled x q told put =
-        let known = says solved.NoFilling x told in
-        record {
-          answer = refusalRecord noFilling 0;
-          is = asks-fill _ q (unfilled (sym same-rim ∙ known .0) (λ other f. known .1 other (subst (λ A. Fills (matrix j) (length (cols j)) A other) (sym same-asked) f)) refl);
-          put = put;
-        }
+      -- it is, and this is what the solver found
+      module _ (e : closed ≡ true) (x : Chain) where
+        pub answers-unfilled : {before after : List ℕ} {count : ℕ} → FillSays (simplices X dim) (simplices X (dim + 1)) (read .marks) filled.None x
+            → Put before 0 (refusalRecord noFilling 0) after count → Answers j before after count
+        answers-unfilled says put =
+            let none = subst₂ (λ (r c : List Simplex). FillSays r c (read .marks) filled.None x) same-rows same-cols says in
+            record {
+              answer = refusalRecord noFilling 0;
+              is = asks-fill _ (unfilled (rim-empty e) (λ other f. none other (subst (λ A. Fills (matrix j) (length (cols j)) A other) (sym same-asked) f)) refl);
+              put = put;
+            }
 
-    pub answers-patch : {before after : List ℕ} {count : ℕ} (x : Chain) → SoundComplex small (complexOf X) → j .question ≡ fill → FillSays L R C marks solved.Patch x → Put before 0 (chainBytes d x C) after count → Answers j before after count
-    answers-patch {before} {after} {count} x sound q told put =
-        let known = says solved.Patch x told in
-        let bytes : chainBytes d x C ≡ chainRecord (j .d) (cols j) x =
-        ap (chainBytes d x) c ∙ chain-bytes (complexOf X) sound (dim + 1) d x ∙ ap₂ (λ n l. chainRecord n l x) (sym (s .d-is)) (sym same-cols) in
-        record {
-          answer = chainRecord (j .d) (cols j) x;
-          is = asks-fill _ q (patch (sym same-rim ∙ known .0) x (subst (λ A. SmallestFilling (matrix j) (length (cols j)) A x) same-asked (known .1)) refl);
-          put = subst (λ b. Put before 0 b after count) bytes put;
-        }
+        pub answers-patch : {before after : List ℕ} {count : ℕ} {l : List Simplex} → l ≡ simplices X (dim + 1)
+            → FillSays (simplices X dim) (simplices X (dim + 1)) (read .marks) filled.Found x
+            → Put before 0 (chainBytes (read .head .d) x l) after count → Answers j before after count
+        answers-patch {before} {after} {count} same says put =
+            let smallest = subst₂ (λ (r c : List Simplex). FillSays r c (read .marks) filled.Found x) same-rows same-cols says in
+            let bytes =
+            ap (chainBytes (read .head .d) x) same
+            ∙ chain-bytes X (k .held .sound) (dim + 1) (read .head .d) x
+            ∙ ap (λ (m : List Simplex). chainRecord (read .head .d) m x) same-cols in
+            record {
+              answer = chainRecord (j .d) (cols j) x;
+              is = asks-fill _ (patch (rim-empty e) x (subst (λ A. SmallestFilling (matrix j) (length (cols j)) A x) same-asked smallest) refl);
+              put = subst (λ b. Put before 0 b after count) bytes put;
+            }
 
-  pub answers-class : {R C : List Simplex} (r : R ≡ listOf X dim) (c : C ≡ listOf X (dim + 1)) {before after : List ℕ} {count : ℕ} (x : Chain) → SoundComplex small (complexOf X) → j .question ≡ class → ClassTold R C marks x → Put before 0 (chainBytes d x R) after count → Answers j before after count
-  answers-class {R} {C} r c {before} {after} {count} x sound q told put =
-      let known = subst₂ (λ R C. ClassTold R C marks x) (r ∙ sym same-rows) (c ∙ sym same-cols) told in
-      let bytes : chainBytes d x R ≡ chainRecord (j .d) (rows j) x =
-      ap (chainBytes d x) r ∙ chain-bytes (complexOf X) sound dim d x ∙ ap₂ (λ n l. chainRecord n l x) (sym (s .d-is)) (sym same-rows) in
+  pub answers-class : {before after : List ℕ} {count : ℕ} {l : List Simplex} (x : Chain) → questionOf (read .head .question) ≡ class → l ≡ simplices X dim
+      → ClassTold (simplices X dim) (simplices X (dim + 1)) (read .marks) x → Put before 0 (chainBytes (read .head .d) x l) after count
+      → Answers j before after count
+  answers-class {before} {after} {count} x q same told put =
+      let known = subst₂ (λ (r c : List Simplex). ClassTold r c (read .marks) x) same-rows same-cols told in
+      let bytes =
+      ap (chainBytes (read .head .d) x) same
+      ∙ chain-bytes X (k .held .sound) dim (read .head .d) x
+      ∙ ap (λ (m : List Simplex). chainRecord (read .head .d) m x) same-rows in
       record {
         answer = chainRecord (j .d) (rows j) x;
         is = subst (λ y. AnswerTo j y (chainRecord (j .d) (rows j) x)) (sym q)
@@ -106,6 +125,3 @@ dimension-few fill d e = few d (leb-true d 3 (and-true (leb 1 d) (leb d 3) e .1)
     few : (d : ℕ) → d ≤ 3 → pred d ≤ 2
     few d h = omega arith
 dimension-few class d e = leb-true d 2 e
-
-pub job-stands : (job : code-job.Job) (k : Readable job) (dim : ℕ) → dim ≡ chainDimension (questionOf (job .head .question)) (job .head .d) → StandsFor (job .complex) (job .marks) dim (job .head .d) (jobOf job (k .set))
-job-stands job k dim e = record { d-is = refl; complex-is = refl; dim-is = sym e; marked = k .marks }

@@ -1,14 +1,10 @@
--- The answer to a job, put at the front of the output.
+-- The answer to a job, put at the front of the output, and which of the lent lists a dimension has.
 use Prim.Native.Nat.{ℕ}
-use mathlib.Core.Path.{_≡_}
+use mathlib.Core.Bool.{cond}
 use mathlib.Core.List.{List}
-use Rattle.format.specs.Numbers.{small}
-use Rattle.format.specs.Reading.{Job, fill, class}
-use Rattle.format.specs.Answer.{rowDimension, rows, AnswerTo}
-use Rattle.format.specs.Sound.{SoundJob}
-use Rattle.lists.specs.declared.Marks.{Marks}
-use Rattle.complexes.specs.Meaning.{complexOf, Marked}
-use Rattle.complexes.specs.declared.Complex as code
+use lib.Dec.{eqb}
+use Rattle.format.specs.Reading.{Job}
+use Rattle.format.specs.Answer.{AnswerTo}
 use Rattle.writer.specs.Meaning.{Put}
 
 pub record Answers (j : Job) (before after : List ℕ) (count : ℕ) : Type 0 where
@@ -16,9 +12,10 @@ pub record Answers (j : Job) (before after : List ℕ) (count : ℕ) : Type 0 wh
   pub is : AnswerTo j (j .question) answer
   pub put : Put before 0 answer after count
 
--- the job of the definitions that a complex, marks of dimension `dim`, and d stand for
-pub record StandsFor (X : code.Complex) (marks : Marks) (dim d : ℕ) (j : Job) : Type 0 where
-  pub d-is : j .d ≡ d
-  pub complex-is : j .complex ≡ complexOf X
-  pub dim-is : rowDimension j ≡ dim
-  pub marked : Marked (marks .on) (rows j) (j .chain)
+-- of edges, triangles and tetrahedra, those of a dimension
+abbrev pub ofDimension : ℕ → List ℕ → List ℕ → List ℕ → List ℕ
+ofDimension dim edges triangles tetrahedra = cond (eqb dim 2) triangles (cond (eqb dim 3) tetrahedra edges)
+
+-- of the links of edges and triangles, those of a dimension; other rows have none
+abbrev pub linksOf : ℕ → List ℕ → List ℕ → List ℕ
+linksOf dim edges triangles = cond (eqb dim 2) triangles edges

@@ -1,114 +1,261 @@
-// Answers a job that was read: the lists of the asked dimensions go to the solver, and its chain or its refusal into the
-// output.
-use complexes::Complex;
-use complexes::Job;
-use lists::Marks;
+// Answers a job that was read into lent arrays: the numbers of the asked dimensions go to the solver, and its chain or its
+// refusal into the output.
+use jobs::NumbersRead;
 use lists::SimplexList;
 use lists::Verdict;
-use solver::Solved;
+use slots::Filled;
 ghost use mathlib.Core.Path.{_≡_};
 ghost use Prim.Native.Nat.{_≤_};
 ghost use lib.ListN.{length};
-ghost use Rattle.format.specs.Numbers.{small};
-ghost use Rattle.format.specs.Simplex.{lower};
-ghost use Rattle.format.specs.Reading.{fill, class};
-ghost use Rattle.format.specs.Reading as format;
-ghost use Rattle.format.specs.Sound.{SoundComplex};
-ghost use Rattle.lists.specs.Meaning.{simplicesOf};
-ghost use Rattle.complexes.specs.Meaning.{complexOf, listOf, jobOf};
-ghost use Rattle.jobs.specs.Meaning.{Readable};
-ghost use Rattle.answering.specs.Meaning.{Answers, StandsFor};
+ghost use Rattle.format.specs.Simplex.{vertexList, lower, simplices};
+ghost use Rattle.format.specs.Reading.{fill, class, chainDimension, questionOf};
+ghost use Rattle.lookup.specs.Numbered.{simplicesIn};
+ghost use Rattle.lent_lists.specs.Held.{complexIn, Held};
+ghost use Rattle.jobs.specs.Meaning.{Asking, jobIn};
+ghost use Rattle.solver.specs.Solved.{RimTold};
+ghost use Rattle.answering.specs.Meaning.{Answers, ofDimension, linksOf};
 
-// The list of a dimension, vertices included.
-fn list_of(complex: Complex, dim: usize) -> SimplexList
-    requires { ⌜ complex .v ≤ 256 ⌝ }
-    ensures { λ r. ⌜ simplicesOf r ≡ listOf complex dim ⌝ }
+// Of three lists, the numbers of the simplices of a dimension from 1 on.
+fn numbers_of<'a>(
+    dim: usize,
+    edges: &'a [u64],
+    triangles: &'a [u64],
+    tetrahedra: &'a [u64],
+) -> &'a [u64]
+    ensures { λ r. ⌜ now r ≡ ofDimension dim (now (edges .entry)) (now (triangles .entry)) (now (tetrahedra .entry)) ⌝ }
 {
-    if dim == 0 {
-        return solver::vertices(complex.v as usize);
+    if dim == 2 {
+        return triangles;
     }
-    complex.list(dim)
+    if dim == 3 {
+        return tetrahedra;
+    }
+    edges
 }
 
-// The list one dimension lower; below the vertices there is none.
-fn lower_of(complex: Complex, dim: usize) -> SimplexList
-    requires { ⌜ complex .v ≤ 256 ⌝ }
-    ensures { λ r. ⌜ simplicesOf r ≡ lower (complexOf complex) dim ⌝ }
+// The links of the rows of a dimension: vertices need none, so any do.
+fn links_of<'a>(dim: usize, edges: &'a [u16], triangles: &'a [u16]) -> &'a [u16]
+    ensures { λ r. ⌜ now r ≡ linksOf dim (now (edges .entry)) (now (triangles .entry)) ⌝ }
 {
-    if dim == 0 {
-        return SimplexList::empty();
+    if dim == 2 {
+        return triangles;
     }
-    list_of(complex, dim - 1)
+    edges
 }
 
-// Fills the marked chain of dimension `dim`: the patch, or refusal 12 or 13.
-fn answer_fill(
+// The numbers of the vertices 0 to v - 1: "vertices rank by number", and each is its own.
+fn number_vertices(keys: &mut [u64], v: usize)
+    requires { ⌜ (v ≤ length (now keys)) × (v ≤ 65536) ⌝ }
+    ensures { λ _. ⌜ simplicesIn 1 (now (keys .exit)) v ≡ vertexList v ⌝ }
+{
+    let mut i = 0;
+    while i < v {
+        keys[i] = i as u64;
+        i += 1;
+    }
+}
+
+// Whether the boundary of A, of dimension `dim`, is empty: that of vertices is.
+fn rim_closed<'a>(
+    read: NumbersRead,
+    dim: usize,
+    e_keys: &'a [u64],
+    e_first: &'a [u16],
+    e_next: &'a [u16],
+    t_keys: &'a [u64],
+    t_first: &'a [u16],
+    t_next: &'a [u16],
+    s_keys: &'a [u64],
+) -> bool
+    requires { ⌜ Asking read (now «e_keys») (now «e_first») (now «e_next») (now «t_keys») (now «t_first») (now «t_next») (now «s_keys») ⌝ }
+    requires { ⌜ dim ≤ 2 ⌝ }
+    ensures { λ r. ⌜ RimTold (lower (complexIn (read .head .v) (read .counts) (now («e_keys» .entry)) (now («t_keys» .entry)) (now («s_keys» .entry))) dim) (simplices (complexIn (read .head .v) (read .counts) (now («e_keys» .entry)) (now («t_keys» .entry)) (now («s_keys» .entry))) dim) (read .marks) r ⌝ }
+{
+    if dim == 0 {
+        return true;
+    }
+    let head = read.head;
+    let counts = read.counts;
+    let marks = read.marks;
+    let low = dim - 1;
+    let m = counts.of(head.v, low);
+    let n = counts.of(head.v, low + 1);
+    let keys = numbers_of(low, e_keys, t_keys, s_keys);
+    let first = links_of(low, e_first, t_first);
+    let next = links_of(low, e_next, t_next);
+    let rows = numbers_of(low + 1, e_keys, t_keys, s_keys);
+    let mut cur = [0u8; 128];
+    solver::rim_closed(&mut cur, keys, first, next, m, rows, n, low + 2, marks, 64)
+}
+
+// Fills A, of dimension `dim`: the patch, or refusal 12 or 13.
+fn answer_fill<'a>(
     out: &mut [u8],
     work: &mut [u8],
-    complex: Complex,
-    marks: Marks,
+    read: NumbersRead,
     dim: usize,
-    d: u8,
+    e_keys: &'a [u64],
+    e_first: &'a [u16],
+    e_next: &'a [u16],
+    t_keys: &'a [u64],
+    t_first: &'a [u16],
+    t_next: &'a [u16],
+    s_keys: &'a [u64],
 ) -> usize
-    requires { ⌜ SoundComplex small (complexOf complex) ⌝ }
-    requires { ⌜ dim ≤ 2 ⌝ }
+    requires { ⌜ Asking read (now «e_keys») (now «e_first») (now «e_next») (now «t_keys») (now «t_first») (now «t_next») (now «s_keys») ⌝ }
+    requires { ⌜ dim ≡ chainDimension (questionOf (read .head .question)) (read .head .d) ⌝ }
+    requires { ⌜ questionOf (read .head .question) ≡ fill ⌝ }
     requires { ⌜ 2055 ≤ length (now out) ⌝ }
     requires { ⌜ 65536 ≤ length (now work) ⌝ }
-    ensures { λ r. ⌜ ((j : format.Job) → j .question ≡ fill → StandsFor complex marks dim d j → Answers j (now (out .entry)) (now (out .exit)) r) ⌝ }
+    ensures { λ r. ⌜ ((k : Asking read (now («e_keys» .entry)) (now («e_first» .entry)) (now («e_next» .entry)) (now («t_keys» .entry)) (now («t_first» .entry)) (now («t_next» .entry)) (now («s_keys» .entry))) → Answers (jobIn read (now («e_keys» .entry)) (now («t_keys» .entry)) (now («s_keys» .entry)) (k .set)) (now (out .entry)) (now (out .exit)) r) ⌝ }
 {
-    let lower = lower_of(complex, dim);
-    let rows = list_of(complex, dim);
-    let cols = list_of(complex, dim + 1);
+    let closed = rim_closed(
+        read,
+        dim,
+        e_keys,
+        e_first,
+        e_next,
+        t_keys,
+        t_first,
+        t_next,
+        s_keys,
+    );
+    if !closed {
+        return answers::put_refusal(out, Verdict::RIM_OPEN, 0);
+    }
+    let head = read.head;
+    let counts = read.counts;
+    let marks = read.marks;
+    let m = counts.of(head.v, dim);
+    let n = counts.of(head.v, dim + 1);
+    let keys = numbers_of(dim, e_keys, t_keys, s_keys);
+    let first = links_of(dim, e_first, t_first);
+    let next = links_of(dim, e_next, t_next);
+    let cols = numbers_of(dim + 1, e_keys, t_keys, s_keys);
     let mut cur = [0u8; 128];
-    let solved = solver::fill(work, &mut cur, lower, rows, cols, marks, 64);
-    match solved {
-        Solved::OpenRim => answers::put_refusal(out, Verdict::RIM_OPEN, 0),
-        Solved::NoFilling => answers::put_refusal(out, Verdict::NO_FILLING, 0),
-        Solved::Patch => {
+    let filled = solver::fill(
+        work,
+        &mut cur,
+        keys,
+        first,
+        next,
+        m,
+        cols,
+        n,
+        dim + 2,
+        marks,
+        64,
+    );
+    match filled {
+        Filled::None => answers::put_refusal(out, Verdict::NO_FILLING, 0),
+        Filled::Found => {
             let half = 64;
-            answers::put_chain(out, d, cols, &cur[half..])
+            answers::put_chain(out, head.d, cols, n, dim + 2, &cur[half..])
         }
     }
 }
 
-// The smallest chain in the class of the marked one.
-fn answer_class(
+// The smallest chain in the class of A, of dimension `dim`.
+fn answer_class<'a>(
     out: &mut [u8],
     work: &mut [u8],
-    complex: Complex,
-    marks: Marks,
+    read: NumbersRead,
     dim: usize,
-    d: u8,
+    e_keys: &'a [u64],
+    e_first: &'a [u16],
+    e_next: &'a [u16],
+    t_keys: &'a [u64],
+    t_first: &'a [u16],
+    t_next: &'a [u16],
+    s_keys: &'a [u64],
 ) -> usize
-    requires { ⌜ SoundComplex small (complexOf complex) ⌝ }
-    requires { ⌜ dim ≤ 2 ⌝ }
+    requires { ⌜ Asking read (now «e_keys») (now «e_first») (now «e_next») (now «t_keys») (now «t_first») (now «t_next») (now «s_keys») ⌝ }
+    requires { ⌜ dim ≡ chainDimension (questionOf (read .head .question)) (read .head .d) ⌝ }
+    requires { ⌜ questionOf (read .head .question) ≡ class ⌝ }
     requires { ⌜ 2055 ≤ length (now out) ⌝ }
     requires { ⌜ 65536 ≤ length (now work) ⌝ }
-    ensures { λ r. ⌜ ((j : format.Job) → j .question ≡ class → StandsFor complex marks dim d j → Answers j (now (out .entry)) (now (out .exit)) r) ⌝ }
+    ensures { λ r. ⌜ ((k : Asking read (now («e_keys» .entry)) (now («e_first» .entry)) (now («e_next» .entry)) (now («t_keys» .entry)) (now («t_first» .entry)) (now («t_next» .entry)) (now («s_keys» .entry))) → Answers (jobIn read (now («e_keys» .entry)) (now («t_keys» .entry)) (now («s_keys» .entry)) (k .set)) (now (out .entry)) (now (out .exit)) r) ⌝ }
 {
-    let rows = list_of(complex, dim);
-    let cols = list_of(complex, dim + 1);
+    let head = read.head;
+    let counts = read.counts;
+    let marks = read.marks;
+    let m = counts.of(head.v, dim);
+    let n = counts.of(head.v, dim + 1);
+    let keys = numbers_of(dim, e_keys, t_keys, s_keys);
+    let first = links_of(dim, e_first, t_first);
+    let next = links_of(dim, e_next, t_next);
+    let cols = numbers_of(dim + 1, e_keys, t_keys, s_keys);
     let mut cur = [0u8; 128];
-    solver::class(work, &mut cur, rows, cols, marks, 64);
+    solver::class(
+        work,
+        &mut cur,
+        keys,
+        first,
+        next,
+        m,
+        cols,
+        n,
+        dim + 2,
+        marks,
+        64,
+    );
     let start = 0;
     let half = 64;
-    answers::put_chain(out, d, rows, &cur[start..half])
+    if dim == 0 {
+        let mut vertices = [0u64; SimplexList::LIMIT];
+        number_vertices(&mut vertices, m);
+        return answers::put_chain(out, head.d, &vertices, m, 1, &cur[start..half]);
+    }
+    answers::put_chain(out, head.d, keys, m, dim + 1, &cur[start..half])
 }
 
 // Answers a job: its question is a filling, or else a class.
-pub fn answer_job(out: &mut [u8], work: &mut [u8], job: Job) -> usize
-    requires { ⌜ Readable job ⌝ }
+pub fn answer_job<'a>(
+    out: &mut [u8],
+    work: &mut [u8],
+    read: NumbersRead,
+    e_keys: &'a [u64],
+    e_first: &'a [u16],
+    e_next: &'a [u16],
+    t_keys: &'a [u64],
+    t_first: &'a [u16],
+    t_next: &'a [u16],
+    s_keys: &'a [u64],
+) -> usize
+    requires { ⌜ Asking read (now «e_keys») (now «e_first») (now «e_next») (now «t_keys») (now «t_first») (now «t_next») (now «s_keys») ⌝ }
     requires { ⌜ 2055 ≤ length (now out) ⌝ }
     requires { ⌜ 65536 ≤ length (now work) ⌝ }
-    ensures { λ r. ⌜ ((k : Readable job) → Answers (jobOf job (k .set)) (now (out .entry)) (now (out .exit)) r) ⌝ }
+    ensures { λ r. ⌜ ((k : Asking read (now («e_keys» .entry)) (now («e_first» .entry)) (now («e_next» .entry)) (now («t_keys» .entry)) (now («t_first» .entry)) (now («t_next» .entry)) (now («s_keys» .entry))) → Answers (jobIn read (now («e_keys» .entry)) (now («t_keys» .entry)) (now («s_keys» .entry)) (k .set)) (now (out .entry)) (now (out .exit)) r) ⌝ }
 {
-    let head = job.head;
-    let complex = job.complex;
-    let marks = job.marks;
+    let head = read.head;
     let dim = jobs::chain_dimension(head);
     if head.question == heads::Head::FILL {
-        answer_fill(out, work, complex, marks, dim, head.d)
+        answer_fill(
+            out,
+            work,
+            read,
+            dim,
+            e_keys,
+            e_first,
+            e_next,
+            t_keys,
+            t_first,
+            t_next,
+            s_keys,
+        )
     } else {
-        answer_class(out, work, complex, marks, dim, head.d)
+        answer_class(
+            out,
+            work,
+            read,
+            dim,
+            e_keys,
+            e_first,
+            e_next,
+            t_keys,
+            t_first,
+            t_next,
+            s_keys,
+        )
     }
 }

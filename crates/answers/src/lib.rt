@@ -1,11 +1,11 @@
 // Answer records: a refusal, or a chain's members in rising rank.
 use lists::Simplex;
-use lists::SimplexList;
 ghost use mathlib.Core.Path.{_≡_};
 ghost use Prim.Native.Nat.{_+_, _≤_, _<_};
 ghost use lib.ListN.{length, set};
 ghost use Rattle.format.specs.Answer.{refusalRecord};
-ghost use Rattle.lists.specs.Meaning.{verticesOf, simplicesOf};
+ghost use Rattle.lists.specs.Meaning.{verticesOf};
+ghost use Rattle.lookup.specs.Numbered.{simplicesIn};
 ghost use Rattle.columns.specs.Column.{chainOf};
 ghost use Rattle.writer.specs.Meaning.{Put, simplexBytes};
 ghost use Rattle.answers.specs.Meaning.{memberBytes, memberPiece, chainBytes};
@@ -35,16 +35,25 @@ fn put_member(out: &mut [u8], at: usize, s: Simplex, on: bool) -> usize
     }
 }
 
-// The members of a chain of a list, one behind the other; the place behind them.
-pub fn put_members(out: &mut [u8], at: usize, list: SimplexList, col: &[u8]) -> usize
-    requires { ⌜ at + length (memberBytes (chainOf (now col)) (simplicesOf list)) ≤ length (now out) ⌝ }
-    ensures { λ r. ⌜ Put (now (out .entry)) at (memberBytes (chainOf (now (col .entry))) (simplicesOf list)) (now (out .exit)) r ⌝ }
+// The members of a chain of the n simplices whose numbers the keys are, one behind the other; the place behind them.
+pub fn put_members(
+    out: &mut [u8],
+    at: usize,
+    keys: &[u64],
+    n: usize,
+    size: usize,
+    col: &[u8],
+) -> usize
+    requires { ⌜ (1 ≤ size) × (size ≤ 4) ⌝ }
+    requires { ⌜ n ≤ length (now keys) ⌝ }
+    requires { ⌜ at + length (memberBytes (chainOf (now col)) (simplicesIn size (now keys) n)) ≤ length (now out) ⌝ }
+    ensures { λ r. ⌜ Put (now (out .entry)) at (memberBytes (chainOf (now (col .entry))) (simplicesIn size (now (keys .entry)) n)) (now (out .exit)) r ⌝ }
 {
-    let n = complexes::count_of(list);
     let mut next = at;
     let mut i = 0;
     while i < n {
-        next = put_member(out, next, list.items[i], columns::test(col, i));
+        let s = lookup::simplex_of(keys[i], size);
+        next = put_member(out, next, s, columns::test(col, i));
         i += 1;
     }
     next
@@ -59,11 +68,13 @@ fn put_byte(out: &mut [u8], at: usize, b: u8)
 }
 
 // A chain's record: d, and then the members, behind a header that says how long they are.
-pub fn put_chain(out: &mut [u8], d: u8, list: SimplexList, col: &[u8]) -> usize
-    requires { ⌜ 7 + length (memberBytes (chainOf (now col)) (simplicesOf list)) ≤ length (now out) ⌝ }
-    ensures { λ r. ⌜ Put (now (out .entry)) 0 (chainBytes d (chainOf (now (col .entry))) (simplicesOf list)) (now (out .exit)) r ⌝ }
+pub fn put_chain(out: &mut [u8], d: u8, keys: &[u64], n: usize, size: usize, col: &[u8]) -> usize
+    requires { ⌜ (1 ≤ size) × (size ≤ 4) ⌝ }
+    requires { ⌜ n ≤ length (now keys) ⌝ }
+    requires { ⌜ 7 + length (memberBytes (chainOf (now col)) (simplicesIn size (now keys) n)) ≤ length (now out) ⌝ }
+    ensures { λ r. ⌜ Put (now (out .entry)) 0 (chainBytes d (chainOf (now (col .entry))) (simplicesIn size (now (keys .entry)) n)) (now (out .exit)) r ⌝ }
 {
-    let next = put_members(out, 7, list, col);
+    let next = put_members(out, 7, keys, n, size, col);
     put_byte(out, 6, d);
     writer::put_header(out, 0, 16, next - 6);
     next

@@ -17,12 +17,10 @@ use Rattle.lists.specs.Verdicts.{readingOf, reading-both}
 use Rattle.lists.specs.declared.Verdict.{Verdict}
 use Rattle.lists.specs.declared.Verdict.the-variants.{Fine, Refused}
 use Rattle.format.specs.Accepted.{record-fits}
-use Rattle.lists.specs.Meaning.{simplicesOf}
 use Rattle.lists.specs.declared.Marks.{Marks}
 use Rattle.chosen.specs.Meaning.{PositionsRead, WalkRead}
 use Rattle.chosen.specs.declared.ChainRead.{ChainRead}
-use Rattle.complexes.specs.Meaning.{complexOf, listOf, Marked}
-use Rattle.complexes.specs.declared.Complex as code
+use Rattle.complexes.specs.Meaning.{Marked}
 use Rattle.chain_stage.specs.Meaning.{recordOfKind, ChainStageRead}
 
 -- OPENING, case by case of the header, the kind and the length.
@@ -104,41 +102,42 @@ marked-by-place on l A room each =
           (λ i h. getD-take (length l) on i false (omega arith) ∙ each i (omega arith) ∙ sym (List·getD-map A l i []) ∙ any-default (map A l) i (A []) false (omega (arith, length-map l A)));
     }
 
--- THE STAGE'S OUTCOME, refused or read.
-pub stage-refused : (b : List ℕ) (at dim : ℕ) (X : code.Complex) (number : ℕ) (marks : Marks) (next : ℕ) → asked b at dim ≡ refused number at → ChainStageRead b at dim X (record { verdict = Refused number at; marks = marks; next = next })
-stage-refused b at dim X number marks next e =
-    record {
-      set = λ s. false;
-      reading = chain-refused b at dim (complexOf X) number e;
-      marks = λ f. let z : _≡_ {A = ℕ} 0 1 = cc in absurd (omega arith);
-    }
-
-pub stage-positions : (b : List ℕ) (at dim : ℕ) (X : code.Complex) (size count : ℕ) (p : List ℕ) (r : ChainRead) → asked b at dim ≡ accepted (recordOfKind chainKind b at size) → p ≡ payloadAt b at size → count ≡ length (listOf X dim) → count ≤ 512 → length (r .marks .on) ≡ 512 → PositionsRead p (at + headerBytes) count r
-    → ChainStageRead b at dim X (record { verdict = r .verdict; marks = r .marks; next = at + headerBytes + size })
-stage-positions b at dim X size count p r e is n few full read =
-    record {
-      set = named (listOf X dim) (positionsOf p);
-      reading = chain-positions b at dim (complexOf X) size (r .verdict) e (positionsOf p) (ap positionsOf is) (ap (λ k. risingBelow k (at + headerBytes) 0 (positionsOf p)) (sym n) ∙ read .verdict);
-      marks = λ fine once.
-          marked-by-place (r .marks .on) (listOf X dim) (named (listOf X dim) (positionsOf p)) (omega arith)
-          (λ i h. read .marks fine i ∙ sym (named-marks (listOf X dim) once (positionsOf p) (ap (λ k. allBelow k (positionsOf p)) (sym n) ∙ read .below fine) i h));
-    }
-
 -- a walk stands only where A has dimension 1
 walk-flat : (b : List ℕ) (at dim : ℕ) (size : ℕ) → asked b at dim ≡ accepted (recordOfKind walkKind b at size) → dim ≡ 1
 walk-flat b at dim size e =
     eqb-true dim 1 (record-fits (mayAsk dim) (chainFits small) b at (headerAt b at) (recordOfKind walkKind b at size) e .0)
 
-pub stage-walk : (b : List ℕ) (at dim : ℕ) (X : code.Complex) (size : ℕ) (p : List ℕ) (r : ChainRead) → asked b at dim ≡ accepted (recordOfKind walkKind b at size) → p ≡ payloadAt b at size → length (r .marks .on) ≡ 512 → WalkRead p (at + headerBytes) (X .edges) r
-    → ChainStageRead b at dim X (record { verdict = r .verdict; marks = r .marks; next = at + headerBytes + size })
-unfolding simplices
-stage-walk b at dim X size p r e is full read =
-    let edges : listOf X dim ≡ simplicesOf (X .edges) = ap (listOf X) (walk-flat b at dim size e) in
-    record {
-      set = walkChain (steps p);
-      reading = chain-walk b at dim (complexOf X) size (r .verdict) e (steps p) (ap steps is) (read .verdict);
-      marks = λ fine once.
-          subst (λ l. Marked (r .marks .on) l (walkChain (steps p))) (sym edges)
-          (marked-by-place (r .marks .on) (simplicesOf (X .edges)) (walkChain (steps p)) (omega (arith, read .few))
-          (read .marks fine (subst Once edges once)));
-    }
+-- THE STAGE'S OUTCOME, refused or read, over whatever complex has the simplices counted and the edges entered.
+module _ (b : List ℕ) (at dim : ℕ) (X : Complex) where
+  pub stage-refused : (number : ℕ) (marks : Marks) (next : ℕ) → asked b at dim ≡ refused number at → ChainStageRead b at dim X (record { verdict = Refused number at; marks = marks; next = next })
+  stage-refused number marks next e =
+      record {
+        set = λ s. false;
+        reading = chain-refused b at dim X number e;
+        marks = λ f. let z : _≡_ {A = ℕ} 0 1 = cc in absurd (omega arith);
+      }
+
+  module _ (size : ℕ) (p : List ℕ) (r : ChainRead) (is : p ≡ payloadAt b at size) (full : length (r .marks .on) ≡ 512) where
+    pub stage-positions : {count : ℕ} → asked b at dim ≡ accepted (recordOfKind chainKind b at size) → length (simplices X dim) ≡ count → count ≤ 512 → PositionsRead p (at + headerBytes) count r
+        → ChainStageRead b at dim X (record { verdict = r .verdict; marks = r .marks; next = at + headerBytes + size })
+    stage-positions e n few read =
+        record {
+          set = named (simplices X dim) (positionsOf p);
+          reading = chain-positions b at dim X size (r .verdict) e (positionsOf p) (ap positionsOf is) (ap (λ k. risingBelow k (at + headerBytes) 0 (positionsOf p)) n ∙ read .verdict);
+          marks = λ fine once.
+              marked-by-place (r .marks .on) (simplices X dim) (named (simplices X dim) (positionsOf p)) (omega arith)
+              (λ i h. read .marks fine i ∙ sym (named-marks (simplices X dim) once (positionsOf p) (ap (λ k. allBelow k (positionsOf p)) n ∙ read .below fine) i h));
+        }
+
+    pub stage-walk : {edges : List Simplex} → asked b at dim ≡ accepted (recordOfKind walkKind b at size) → X .edges ≡ edges → length edges ≤ 512 → WalkRead p (at + headerBytes) edges r
+        → ChainStageRead b at dim X (record { verdict = r .verdict; marks = r .marks; next = at + headerBytes + size })
+    unfolding simplices
+    stage-walk {edges} e own few read =
+        let flat : simplices X dim ≡ edges = ap (simplices X) (walk-flat b at dim size e) ∙ own in
+        record {
+          set = walkChain (steps p);
+          reading = chain-walk b at dim X size (r .verdict) e (steps p) (ap steps is) (ap (λ l. readSteps l (at + headerBytes) (steps p)) own ∙ read .verdict);
+          marks = λ fine once.
+              subst (λ l. Marked (r .marks .on) l (walkChain (steps p))) (sym flat)
+              (marked-by-place (r .marks .on) edges (walkChain (steps p)) (omega arith) (read .marks fine (subst Once flat once)));
+        }

@@ -1,6 +1,5 @@
 // The stage of a job that says what is asked about: a chain record's positions, or a closed walk.
 use chosen::ChainRead;
-use complexes::Complex;
 use lists::Marks;
 use lists::Verdict;
 use records::Header;
@@ -8,9 +7,11 @@ ghost use mathlib.Core.Path.{_≡_};
 ghost use Prim.Native.Nat.{_≤_};
 ghost use lib.ListN.{length};
 ghost use Rattle.format.specs.Numbers.{small};
+ghost use Rattle.format.specs.Simplex.{simplices};
+ghost use Rattle.format.specs.Simplex as format;
 ghost use Rattle.format.specs.Reading.{recordAt, mayAsk, chainFits};
-ghost use Rattle.lists.specs.Meaning.{simplicesOf};
 ghost use Rattle.lookup.specs.Indexed.{Proper, Indexed};
+ghost use Rattle.lookup.specs.Numbered.{simplicesIn};
 ghost use Rattle.chain_stage.specs.Meaning.{chainOpened, ChainStageRead};
 
 // The record behind the lists: a chain record or a walk with the length of its payload, or the refusal's number.
@@ -59,20 +60,23 @@ pub struct ChainStage {
     pub next: usize,
 }
 
-// Reads what is asked about, over the complex as the file lists it, whose edges are entered.
+// Reads what is asked about, over the complex as the file lists it: `count` simplices of dimension `dim`, and the first
+// `edges` keys are the numbers of its edges.
 pub fn read_chain(
     job: &[u8],
     at: usize,
     dim: usize,
-    complex: Complex,
+    count: usize,
+    edges: usize,
     keys: &[u64],
     first: &[u16],
     next: &[u16],
 ) -> ChainStage
-    requires { ⌜ (length (now job) ≤ 6690) × (complex .v ≤ 256) ⌝ }
-    requires { ⌜ Proper 2 (simplicesOf (complex .edges)) ⌝ }
-    requires { ⌜ Indexed (simplicesOf (complex .edges)) (now keys) (now first) (now next) (complex .edges .count) ⌝ }
-    ensures { λ r. ⌜ ChainStageRead (now (job .entry)) at dim complex r ⌝ }
+    requires { ⌜ length (now job) ≤ 6690 ⌝ }
+    requires { ⌜ (count ≤ 512) × (edges ≤ 512) ⌝ }
+    requires { ⌜ Proper 2 (simplicesIn 2 (now keys) edges) ⌝ }
+    requires { ⌜ Indexed (simplicesIn 2 (now keys) edges) (now keys) (now first) (now next) edges ⌝ }
+    ensures { λ r. ⌜ ((X : format.Complex) → X .edges ≡ simplicesIn 2 (now (keys .entry)) edges → length (simplices X dim) ≡ count → ChainStageRead (now (job .entry)) at dim X r) ⌝ }
 {
     let opened = open_chain(job, at, dim);
     match opened {
@@ -84,7 +88,7 @@ pub fn read_chain(
         ChainOpened::Positions(size) => {
             let start = at + Header::BYTES;
             let p = records::payload(job, at, size);
-            let read = chosen::read_positions(p, start, complex.count(dim));
+            let read = chosen::read_positions(p, start, count);
             let verdict = read.verdict;
             let marks = read.marks;
             ChainStage {
@@ -96,7 +100,6 @@ pub fn read_chain(
         ChainOpened::Walk(size) => {
             let start = at + Header::BYTES;
             let p = records::payload(job, at, size);
-            let edges = complex.edges;
             let read = chosen::read_walk(p, start, edges, keys, first, next);
             let verdict = read.verdict;
             let marks = read.marks;

@@ -17,10 +17,8 @@ use Rattle.format.specs.Reading.{Reading, accepted, refused, _andThen_, edgeBet
 use Rattle.format.specs.Listed.{isRanked, listed-ranked, rank-stands}
 use Rattle.format.specs.Marks.{checkSteps, steps-then, step-marks, Once}
 use Rattle.lists.specs.declared.Marks.{Marks}
-use Rattle.lists.specs.declared.SimplexList.{SimplexList}
 use Rattle.lists.specs.declared.Verdict.the-variants.{Fine, Refused}
-use Rattle.lists.specs.Meaning.{simplicesOf, rankOf}
-use Rattle.lists.specs.Items.{length-simplices}
+use Rattle.lists.specs.Meaning.{rankOf}
 use Rattle.lists.specs.declared.Found.{Found}
 use Rattle.lookup.specs.Indexed.{Proper, Keyed, Indexed}
 use Rattle.chosen.specs.Meaning.{WalkRead, stepAt}
@@ -84,22 +82,21 @@ module _ {p : List ℕ} {base : ℕ} {edges : List Simplex} {on : List Bool} {i 
       one once j h (no n) = rw (step-marks edges once (stepAt p i) r e j h, getD-set-other on r j true false n, ne-eqb j r n)
 
 -- What is handed back with a refusal, and at the end.
-pub walk-refused : (p : List ℕ) (base : ℕ) (edges : SimplexList) → length (edges .items) ≡ 512 → (n q : ℕ) (marks : Marks) → readSteps (simplicesOf edges) base (steps p) ≡ refused n q → WalkRead p base edges (record { verdict = Refused n q; marks = marks })
-walk-refused p base edges full n q marks e =
-    record { verdict = e; few = omega (arith, length-simplices edges); marks = λ f. let z : _≡_ {A = ℕ} 0 1 = cc in absurd (omega arith) }
+pub walk-refused : {p : List ℕ} {base : ℕ} {edges : List Simplex} {n q : ℕ} (marks : Marks) → readSteps edges base (steps p) ≡ refused n q → WalkRead p base edges (record { verdict = Refused n q; marks = marks })
+walk-refused marks e = record { verdict = e; marks = λ f. let z : _≡_ {A = ℕ} 0 1 = cc in absurd (omega arith) }
 
-pub walk-read : {p : List ℕ} {base : ℕ} (edges : SimplexList) → length (edges .items) ≡ 512 → (marks : Marks) {i : ℕ} → Walking p base (simplicesOf edges) (marks .on) i → length p ≤ i → WalkRead p base edges (record { verdict = Fine; marks = marks })
+pub walk-read : {p : List ℕ} {base : ℕ} {edges : List Simplex} (marks : Marks) {i : ℕ} → Walking p base edges (marks .on) i → length p ≤ i → WalkRead p base edges (record { verdict = Fine; marks = marks })
 unfolding checkSteps walkChain listed
-walk-read {p = p} edges full marks {i = i} now done =
+walk-read {p} {edges = edges} marks {i} now done =
     record {
       verdict = now .rest ∙ rw (no-steps p i done);
-      few = omega (arith, length-simplices edges);
-      marks = λ f once j h. sym (or-false (getD (marks .on) j false)) ∙ ap (λ x. getD (marks .on) j false || listed (getD (simplicesOf edges) j []) x) (sym (no-steps p i done)) ∙ now .marked once j h;
+      marks = λ f once j h. sym (or-false (getD (marks .on) j false)) ∙ ap (λ x. getD (marks .on) j false || listed (getD edges j []) x) (sym (no-steps p i done)) ∙ now .marked once j h;
     }
 
--- a rank in a list is below the list's limit
-pub rank-few : (edges : SimplexList) → length (edges .items) ≡ 512 → (s : Simplex) (r : ℕ) → rank s (simplicesOf edges) ≡ ranked r → r < 512
-rank-few edges long s r e = omega (arith, rank-stands s (simplicesOf edges) r e .below, length-simplices edges)
+-- a rank in an index is below the list's limit
+pub rank-few : {edges : List Simplex} {keys first next : List ℕ} {n r : ℕ} (s : Simplex) → n ≤ 512 → Indexed edges keys first next n
+    → rank s edges ≡ ranked r → r < 512
+rank-few {edges} {r = r} s few indexed e = omega (arith, rank-stands s edges r e .below, indexed .keyed .count)
 
 -- a step is an edge
 step-wide : (p : List ℕ) (i : ℕ) → length (stepAt p i) ≡ 2

@@ -1,5 +1,5 @@
 -- Marks by rank, as the places that a chain record names and as the edges that a walk uses.
-use Prim.Native.Nat.{ℕ, _+_, _≤_, _<_}
+use Prim.Native.Nat.{ℕ, _+_, _<_}
 use mathlib.Core.Path.{_≡_}
 use mathlib.Core.Bool.{Bool, true, false, cond}
 use mathlib.Core.List.{List, []}
@@ -8,11 +8,9 @@ use lib.Dec.{ltb}
 use Rattle.format.specs.Simplex.{Simplex, SimplexSet, allBelow}
 use Rattle.format.specs.Reading.{Reading, risingBelow, positionsOf, readSteps, steps, edgeBetween, walkChain}
 use Rattle.format.specs.Marks.{among, Once}
-use Rattle.lists.specs.Meaning.{simplicesOf}
 use Rattle.lists.specs.Verdicts.{readingOf}
 use Rattle.lists.specs.declared.Verdict.{Verdict}
 use Rattle.lists.specs.declared.Verdict.the-variants.{Fine}
-use Rattle.lists.specs.declared.SimplexList.{SimplexList}
 use Rattle.chosen.specs.declared.ChainRead.{ChainRead}
 
 -- the positions of a payload, read: the verdict is the definition's, and where it is fine the marks are the positions
@@ -26,7 +24,6 @@ abbrev pub stepAt : List ℕ → ℕ → Simplex
 stepAt p i = edgeBetween (getD p i 0) (cond (ltb (i + 1) (length p)) (getD p (i + 1) 0) (getD p 0 0))
 
 -- a walk, read: where the verdict is fine the marks are the edges that some step uses
-pub record WalkRead (p : List ℕ) (base : ℕ) (edges : SimplexList) (r : ChainRead) : Type 0 where
-  pub verdict : readSteps (simplicesOf edges) base (steps p) ≡ readingOf (r .verdict) (steps p)
-  pub few : length (simplicesOf edges) ≤ 512
-  pub marks : r .verdict ≡ Fine → Once (simplicesOf edges) → (i : ℕ) → i < length (simplicesOf edges) → getD (r .marks .on) i false ≡ walkChain (steps p) (getD (simplicesOf edges) i [])
+pub record WalkRead (p : List ℕ) (base : ℕ) (edges : List Simplex) (r : ChainRead) : Type 0 where
+  pub verdict : readSteps edges base (steps p) ≡ readingOf (r .verdict) (steps p)
+  pub marks : r .verdict ≡ Fine → Once edges → (i : ℕ) → i < length edges → getD (r .marks .on) i false ≡ walkChain (steps p) (getD edges i [])

@@ -2,14 +2,14 @@
 use lists::Found;
 use lists::Marks;
 use lists::Simplex;
-use lists::SimplexList;
 use lists::Verdict;
 ghost use mathlib.Core.Path.{_≡_};
 ghost use Prim.Native.Nat.{_≤_, _<_};
 ghost use lib.ListN.{length};
 ghost use Rattle.format.specs.Reading.{edgeBetween};
-ghost use Rattle.lists.specs.Meaning.{verticesOf, simplicesOf};
+ghost use Rattle.lists.specs.Meaning.{verticesOf};
 ghost use Rattle.lookup.specs.Indexed.{Proper, Indexed};
+ghost use Rattle.lookup.specs.Numbered.{simplicesIn};
 ghost use Rattle.chosen.specs.Meaning.{PositionsRead, WalkRead, stepAt};
 
 // A verdict, and the marks beside it, which count only where nothing was refused.
@@ -89,24 +89,24 @@ fn step_at(p: &[u8], i: usize) -> Simplex
     }
 }
 
-// Marks the edges that the steps of a closed walk use; each must be listed, and all edges are entered.
+// Marks the edges that the steps of a closed walk use; each must be listed, which the first `edges` keys tell.
 pub fn read_walk(
     p: &[u8],
     base: usize,
-    edges: SimplexList,
+    edges: usize,
     keys: &[u64],
     first: &[u16],
     next: &[u16],
 ) -> ChainRead
-    requires { ⌜ base ≤ 65536 ⌝ }
-    requires { ⌜ Proper 2 (simplicesOf edges) ⌝ }
-    requires { ⌜ Indexed (simplicesOf edges) (now keys) (now first) (now next) (edges .count) ⌝ }
-    ensures { λ r. ⌜ WalkRead (now (p .entry)) base edges r ⌝ }
+    requires { ⌜ (base ≤ 65536) × (edges ≤ 512) ⌝ }
+    requires { ⌜ Proper 2 (simplicesIn 2 (now keys) edges) ⌝ }
+    requires { ⌜ Indexed (simplicesIn 2 (now keys) edges) (now keys) (now first) (now next) edges ⌝ }
+    ensures { λ r. ⌜ WalkRead (now (p .entry)) base (simplicesIn 2 (now (keys .entry)) edges) r ⌝ }
 {
     let mut marks = Marks::none();
     let mut i = 0;
     while i < p.len() {
-        let found = lookup::find(keys, first, next, edges.count, step_at(p, i));
+        let found = lookup::find(keys, first, next, edges, step_at(p, i));
         let Found::At(rank) = found else {
             return ChainRead {
                 verdict: Verdict::Refused(Verdict::CHAIN_ITEM, base + i),

@@ -165,9 +165,9 @@ impl EditsRead {
     const START: usize = 6;
 }
 
-// Takes edit after edit to the end of the file. Each is judged in the order that the earlier ones left. The marks are of the
+// Reads edit after edit to the end of the file. Each is judged in the order that the earlier ones left. The marks are of the
 // simplices of dimension `dim`, and move with them.
-fn take_edits(
+pub fn read_edits(
     job: &[u8],
     mut at: usize,
     complex: Complex,
@@ -246,18 +246,4 @@ fn take_edits(
         },
         marks,
     }
-}
-
-// Reads the edits from a place to the end of the file. Where there are none, the complex goes on in one piece.
-pub fn read_edits(job: &[u8], at: usize, complex: Complex, marks: Marks, dim: usize) -> EditsRead
-    ensures { λ r. ⌜ EditsTaken (now (job .entry)) at dim complex marks r ⌝ }
-{
-    if job.len() <= at {
-        return EditsRead {
-            verdict: Verdict::Fine,
-            complex,
-            marks,
-        };
-    }
-    take_edits(job, at, complex, marks, dim)
 }

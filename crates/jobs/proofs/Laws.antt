@@ -18,7 +18,7 @@ use Rattle.format.specs.Opened.{opened, record-opened, opened-inside, payload-l
 use Rattle.format.specs.Sound.{SoundList, SoundComplex}
 use Rattle.format.specs.Accepted.{head-sound, list-sound, edits-vertices}
 use Rattle.format.specs.Marks.{Once, simplices-once}
-use Rattle.lists.specs.Meaning.{simplicesOf}
+use Rattle.format.specs.Answer.{rows}
 use Rattle.lists.specs.Verdicts.{readingOf, reading-then, told}
 use Rattle.lists.specs.declared.Verdict.{Verdict}
 use Rattle.lists.specs.declared.Verdict.the-variants.{Fine, Refused}
@@ -26,45 +26,81 @@ use Rattle.heads.specs.declared.Head.{Head}
 use Rattle.heads.specs.declared.HeadRead.{HeadRead}
 use Rattle.heads.specs.declared.HeadRead.the-variants.{Sound}
 use Rattle.heads.specs.Meaning.{headOf, headReading, HeadKnown}
-use Rattle.lookup.specs.Indexed.{Indexed}
+use Rattle.lookup.specs.Indexed.{Proper, Indexed}
 use Rattle.lookup.specs.IndexLaws.{sound-proper, proper-none}
+use Rattle.lookup.specs.Numbered.{simplicesIn}
 use Rattle.reading_lists.specs.Items.{FacesIn}
 use Rattle.stages.specs.Meaning.{listRead}
 use Rattle.stages.specs.declared.ListRead.{ListRead}
-use Rattle.complexes.specs.Meaning.{jobOf, complexOf, listOf, Marked}
+use Rattle.complexes.specs.Meaning.{jobOf, complexOf, Marked}
 use Rattle.complexes.specs.declared.Complex.{Complex}
 use Rattle.complexes.specs.declared.Job.{Job}
+use Rattle.lent_lists.specs.Held.{complexIn, Held, EditsHeld}
+use Rattle.lent_lists.specs.declared.Edited.{Edited}
 use Rattle.chain_stage.specs.Meaning.{ChainStageRead}
 use Rattle.chain_stage.specs.declared.ChainStage.{ChainStage}
-use Rattle.edits.specs.Meaning.{EditsTaken}
-use Rattle.edits.specs.declared.EditsRead.{EditsRead}
-use Rattle.jobs.specs.Meaning.{Outcome, SoundHead, ListSound, Lists, readLists, ListsTold}
+use Rattle.jobs.specs.Meaning.{Outcome, SoundHead, ListSound, Lists, readLists, ListsTold, jobIn, Told}
 use Rattle.jobs.specs.declared.JobRead.{JobRead}
+use Rattle.jobs.specs.declared.NumbersRead.{NumbersRead}
 use Rattle.jobs.specs.declared.ListsRead.{ListsRead}
 
+-- a refusal is not fine
+refused-fine : {A : Type 0} {verdict : Verdict} (n p : ℕ) → verdict ≡ Refused n p → verdict ≡ Fine → A
+refused-fine n p e f = let z : _≡_ {A = ℕ} 0 1 = cc in absurd (omega arith)
+
 -- A REFUSAL of a stage is the outcome.
-pub outcome-refused : (r : Reading reader.Job) (j : JobRead) (n p : ℕ) → r ≡ refused n p → j .verdict ≡ Refused n p → Outcome r j
-outcome-refused r j n p e v =
-    record {
-      set = λ s. false;
-      is = e ∙ ap (λ x. readingOf x (jobOf (j .job) (λ s. false))) (sym v);
-      marks = λ f. let z : _≡_ {A = ℕ} 0 1 = cc in absurd (omega arith);
-      head = λ f. let z : _≡_ {A = ℕ} 0 1 = cc in absurd (omega arith);
-      v = λ f. let z : _≡_ {A = ℕ} 0 1 = cc in absurd (omega arith);
-    }
+pub told-refused : (r : Reading reader.Job) {eKeys eFirst eNext tKeys tFirst tNext sKeys : List ℕ} (j : NumbersRead) (n p : ℕ) → r ≡ refused n p
+    → j .verdict ≡ Refused n p → Told r eKeys eFirst eNext tKeys tFirst tNext sKeys j
+told-refused r {eKeys} {tKeys = tKeys} {sKeys = sKeys} j n p e v = record {
+  set = λ s. false;
+  is = e ∙ ap (λ x. readingOf x (jobIn j eKeys tKeys sKeys (λ s. false))) (sym v);
+  held = refused-fine n p v;
+  marks = refused-fine n p v;
+  head = refused-fine n p v;
+}
 
 -- what is read as one thing is read as what that is
-pub outcome-same : {r s : Reading reader.Job} (j : JobRead) → r ≡ s → Outcome s j → Outcome r j
-outcome-same j e o = subst (λ x. Outcome x j) (sym e) o
+pub told-same : {r s : Reading reader.Job} {eKeys eFirst eNext tKeys tFirst tNext sKeys : List ℕ} (j : NumbersRead) → r ≡ s
+    → Told s eKeys eFirst eNext tKeys tFirst tNext sKeys j → Told r eKeys eFirst eNext tKeys tFirst tNext sKeys j
+told-same {eKeys = eKeys} {eFirst = eFirst} {eNext = eNext} {tKeys = tKeys} {tFirst = tFirst} {tNext = tNext} {sKeys = sKeys} j e o =
+    subst (λ x. Told x eKeys eFirst eNext tKeys tFirst tNext sKeys j) (sym e) o
+
+-- THE JOB BY VALUE, from what was read into arrays.
+pub outcome-refused : {r : Reading reader.Job} {eKeys eFirst eNext tKeys tFirst tNext sKeys : List ℕ} {read : NumbersRead}
+    → Told r eKeys eFirst eNext tKeys tFirst tNext sKeys read → (j : JobRead) (n p : ℕ) → read .verdict ≡ Refused n p
+    → j .verdict ≡ Refused n p → Outcome r j
+outcome-refused {r} {eKeys} {tKeys = tKeys} {sKeys = sKeys} {read = read} told j n p e v = record {
+  set = told .set;
+  is = told .is ∙ ap (λ x. readingOf x (jobIn read eKeys tKeys sKeys (told .set))) e ∙ ap (λ x. readingOf x (jobOf (j .job) (told .set))) (sym v);
+  marks = refused-fine n p v;
+  head = refused-fine n p v;
+  v = refused-fine n p v;
+}
+
+pub outcome-fine : {r : Reading reader.Job} {eKeys eFirst eNext tKeys tFirst tNext sKeys : List ℕ} {read : NumbersRead}
+    → Told r eKeys eFirst eNext tKeys tFirst tNext sKeys read → (X : Complex) → read .verdict ≡ Fine
+    → complexOf X ≡ complexIn (read .head .v) (read .counts) eKeys tKeys sKeys
+    → Outcome r (record { verdict = Fine; job = record { head = read .head; complex = X; marks = read .marks } })
+outcome-fine {r} {eKeys} {tKeys = tKeys} {sKeys = sKeys} {read = read} told X fine made = record {
+  set = told .set;
+  is = told .is ∙ ap (λ x. readingOf x (jobIn read eKeys tKeys sKeys (told .set))) fine
+      ∙ ap (λ (Y : format.Complex). accepted (asking Y)) (sym made);
+  marks = λ f. subst (λ (Y : format.Complex). Marked (read .marks .on) (rows (asking Y)) (told .set)) (sym made) (told .marks fine);
+  head = λ f. told .head fine;
+  v = λ f. ap (λ (Y : format.Complex). Y .v) (sym made);
+}
+  where
+    asking : format.Complex → reader.Job
+    asking Y = record { question = questionOf (read .head .question); d = read .head .d; complex = Y; chain = told .set }
 
 -- A LIST that was read, by its verdict.
-pub list-refused : (b : List ℕ) (at kind v : ℕ) (faces : List Simplex) (r : ListRead) (n p : ℕ) → listRead r ≡ readList small b at kind v faces → r .verdict ≡ Refused n p → readList small b at kind v faces ≡ refused n p
-list-refused b at kind v faces r n p e f =
-    sym e ∙ ap (λ x. readingOf x (record { list = simplicesOf (r .list); next = r .next })) f
+pub list-refused : (b : List ℕ) (at kind v : ℕ) (faces : List Simplex) (keys : List ℕ) (r : ListRead) (n p : ℕ) → listRead kind keys r ≡ readList small b at kind v faces → r .verdict ≡ Refused n p → readList small b at kind v faces ≡ refused n p
+list-refused b at kind v faces keys r n p e f =
+    sym e ∙ ap (λ x. readingOf x (record { list = simplicesIn kind keys (r .count); next = r .next })) f
 
-pub list-fine : (b : List ℕ) (at kind v : ℕ) (faces : List Simplex) (r : ListRead) → listRead r ≡ readList small b at kind v faces → r .verdict ≡ Fine → readList small b at kind v faces ≡ accepted (record { list = simplicesOf (r .list); next = r .next })
-list-fine b at kind v faces r e f =
-    sym e ∙ ap (λ x. readingOf x (record { list = simplicesOf (r .list); next = r .next })) f
+pub list-fine : (b : List ℕ) (at kind v : ℕ) (faces : List Simplex) (keys : List ℕ) (r : ListRead) → listRead kind keys r ≡ readList small b at kind v faces → r .verdict ≡ Fine → readList small b at kind v faces ≡ accepted (record { list = simplicesIn kind keys (r .count); next = r .next })
+list-fine b at kind v faces keys r e f =
+    sym e ∙ ap (λ x. readingOf x (record { list = simplicesIn kind keys (r .count); next = r .next })) f
 
 pub list-known : (b : List ℕ) (at kind v : ℕ) (faces : List Simplex) (l : Listing) → 0 < kind → readList small b at kind v faces ≡ accepted l → ListSound kind v faces (l .list)
 list-known b at kind v faces l positive e =
@@ -123,18 +159,19 @@ module _ (b : List ℕ) (at : ℕ) (h : reader.Head) where
       rest l = afterLists small b h (l .next) (l .complex)
 
   -- so a refusal among them is the outcome, and otherwise the rest is
-  module _ (keys first next : List ℕ) (r : ListsRead) (told : ListsTold b at (h .v) keys first next r) where
+  module _ {eKeys eFirst eNext tKeys tFirst tNext sKeys : List ℕ} (r : ListsRead)
+      (told : ListsTold b at (h .v) eKeys eFirst eNext tKeys tFirst tNext sKeys r) where
     pub lists-refused : (n p : ℕ) → r .verdict ≡ Refused n p → afterHead small b at h ≡ refused n p
     lists-refused n p e =
         lists-first
         ∙ ap (λ x. x andThen λ l. afterLists small b h (l .next) (l .complex))
-        (told .reads ∙ ap (λ v. readingOf v (record { complex = complexOf (r .complex); next = r .next })) e)
+        (told .reads ∙ ap (λ v. readingOf v (record { complex = complexIn (h .v) (r .counts) eKeys tKeys sKeys; next = r .next })) e)
 
-    pub lists-fine : r .verdict ≡ Fine → afterHead small b at h ≡ afterLists small b h (r .next) (complexOf (r .complex))
+    pub lists-fine : r .verdict ≡ Fine → afterHead small b at h ≡ afterLists small b h (r .next) (complexIn (h .v) (r .counts) eKeys tKeys sKeys)
     lists-fine e =
         lists-first
         ∙ ap (λ x. x andThen λ l. afterLists small b h (l .next) (l .complex))
-        (told .reads ∙ ap (λ v. readingOf v (record { complex = complexOf (r .complex); next = r .next })) e)
+        (told .reads ∙ ap (λ v. readingOf v (record { complex = complexIn (h .v) (r .counts) eKeys tKeys sKeys; next = r .next })) e)
 
   pub chain-refused : (X : format.Complex) (n p : ℕ) → readChain small b at (chainDimension (h .question) (h .d)) X ≡ refused n p → afterLists small b h at X ≡ refused n p
   unfolding afterLists
@@ -182,24 +219,23 @@ pub dimension-class : (q d : ℕ) → (q ≡ 1 → ⊥) → d ≡ chainDimension
 dimension-class q d n = rw (ne-eqb q 1 n)
 
 -- THE LAST STAGES: what is asked about, and then the edits.
-pub chain-told : (b : List ℕ) (at dim : ℕ) (X : Complex) (r : ChainStage) (n p : ℕ) (h : reader.Head) → dim ≡ chainDimension (h .question) (h .d) → ChainStageRead b at dim X r → r .verdict ≡ Refused n p → afterLists small b h at (complexOf X) ≡ refused n p
+pub chain-told : (b : List ℕ) (at dim : ℕ) (X : format.Complex) (r : ChainStage) (n p : ℕ) (h : reader.Head) → dim ≡ chainDimension (h .question) (h .d) → ChainStageRead b at dim X r → r .verdict ≡ Refused n p → afterLists small b h at X ≡ refused n p
 chain-told b at dim X r n p h e read v =
-    chain-refused b at h (complexOf X) n p
-    (ap (λ k. readChain small b at k (complexOf X)) (sym e) ∙ read .reading ∙ ap (λ x. readingOf x (record { chain = read .set; next = r .next })) v)
+    chain-refused b at h X n p
+    (ap (λ k. readChain small b at k X) (sym e) ∙ read .reading ∙ ap (λ x. readingOf x (record { chain = read .set; next = r .next })) v)
 
-pub edits-told : (b : List ℕ) (at dim : ℕ) (X : Complex) (r : ChainStage) (head : Head) (done : EditsRead) → dim ≡ chainDimension (questionOf (head .question)) (head .d) → SoundHead head → head .v ≡ X .v → SoundComplex small (complexOf X) → ChainStageRead b at dim X r → r .verdict ≡ Fine → EditsTaken b (r .next) dim X (r .marks) done
-    → Outcome (afterLists small b (headOf head) at (complexOf X)) (record { verdict = done .verdict; job = record { head = head; complex = done .complex; marks = done .marks } })
-edits-told b at dim X r head done e known v sound read fine taken =
-    record {
-      set = read .set;
-      is = edits-read b at (headOf head) (complexOf X) (record { chain = read .set; next = r .next }) (done .verdict) (complexOf (done .complex))
-          (ap (λ k. readChain small b at k (complexOf X)) (sym e) ∙ read .reading ∙ ap (λ x. readingOf x (record { chain = read .set; next = r .next })) fine)
-          (taken .reading);
-      marks = λ f. subst (λ k. Marked (done .marks .on) (listOf (done .complex) k) (read .set)) e
-          (taken .stay f (read .set) (read .marks fine (simplices-once small (complexOf X) sound dim)));
-      head = λ f. known;
-      v = λ f. v ∙ edits-vertices 64 b (r .next) (complexOf X) (complexOf (done .complex)) (taken .reading ∙ ap (λ x. readingOf x (complexOf (done .complex))) f);
-    }
+pub edits-told : (b : List ℕ) (at dim : ℕ) (X : format.Complex) (r : ChainStage) (head : Head) (done : Edited) {eKeys eFirst eNext tKeys tFirst tNext sKeys : List ℕ} → dim ≡ chainDimension (questionOf (head .question)) (head .d) → SoundHead head → SoundComplex small X → ChainStageRead b at dim X r → r .verdict ≡ Fine → EditsHeld b (r .next) dim (head .v) X (r .marks) eKeys eFirst eNext tKeys tFirst tNext sKeys done
+    → Told (afterLists small b (headOf head) at X) eKeys eFirst eNext tKeys tFirst tNext sKeys (record { verdict = done .verdict; head = head; counts = done .counts; marks = done .marks })
+edits-told b at dim X r head done {eKeys} {tKeys = tKeys} {sKeys = sKeys} e known sound read fine taken = record {
+  set = read .set;
+  is = edits-read b at (headOf head) X (record { chain = read .set; next = r .next }) (done .verdict) (complexIn (head .v) (done .counts) eKeys tKeys sKeys)
+      (ap (λ k. readChain small b at k X) (sym e) ∙ read .reading ∙ ap (λ x. readingOf x (record { chain = read .set; next = r .next })) fine)
+      (taken .reading);
+  held = taken .held;
+  marks = λ f. subst (λ k. Marked (done .marks .on) (simplices (complexIn (head .v) (done .counts) eKeys tKeys sKeys) k) (read .set)) e
+      (taken .stay f (read .set) (read .marks fine (simplices-once small X sound dim)));
+  head = λ f. known;
+}
 
 -- three sound lists make a sound complex
 pub complex-sound : (v : ℕ) (edges triangles tetrahedra : List Simplex) → v ≤ 256 → ListSound 2 v [] edges → ListSound 3 v edges triangles → ListSound 4 v triangles tetrahedra → SoundComplex small (record { v = v; edges = edges; triangles = triangles; tetrahedra = tetrahedra })
@@ -221,14 +257,9 @@ head-known p r h known e =
     record { asks = known .asks h e; dimension = read .0; vertices = read .1 }
 
 -- lists of which one was refused
-pub told-refused : {b : List ℕ} {at v : ℕ} {keys first next : List ℕ} {n p : ℕ} (r : ListsRead) → r .verdict ≡ Refused n p
-    → readLists b at v ≡ refused n p → ListsTold b at v keys first next r
-told-refused r e out = record {
-  reads = out ∙ ap (λ v. readingOf v (record { complex = complexOf (r .complex); next = r .next })) (sym e);
-  sound = λ f. no-fine f;
-  vertices = λ f. no-fine f;
-  indexed = λ f. no-fine f;
+pub lists-told-refused : {b : List ℕ} {at v : ℕ} {eKeys eFirst eNext tKeys tFirst tNext sKeys : List ℕ} {n p : ℕ} (r : ListsRead) → r .verdict ≡ Refused n p
+    → readLists b at v ≡ refused n p → ListsTold b at v eKeys eFirst eNext tKeys tFirst tNext sKeys r
+lists-told-refused {v = v} {eKeys = eKeys} {tKeys = tKeys} {sKeys = sKeys} {n = n} {p = p} r e out = record {
+  reads = out ∙ ap (λ x. readingOf x (record { complex = complexIn v (r .counts) eKeys tKeys sKeys; next = r .next })) (sym e);
+  held = refused-fine n p e;
 }
-  where
-    no-fine : {A : Type 0} → r .verdict ≡ Fine → A
-    no-fine f = let z : _≡_ {A = ℕ} 0 1 = cc in absurd (omega arith)

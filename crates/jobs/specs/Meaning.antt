@@ -12,16 +12,16 @@ use Rattle.format.specs.Reading.{Reading, accepted, _andThen_, readList, dimens
 use Rattle.format.specs.Reading as format
 use Rattle.format.specs.Answer.{rows}
 use Rattle.format.specs.Sound.{SoundList, SoundComplex, SoundJob}
-use Rattle.lists.specs.Meaning.{simplicesOf}
 use Rattle.lists.specs.Verdicts.{readingOf}
 use Rattle.lists.specs.declared.Verdict.the-variants.{Fine}
-use Rattle.lists.specs.declared.SimplexList.{SimplexList}
 use Rattle.heads.specs.declared.Head.{Head}
 use Rattle.heads.specs.Meaning.{headOf}
-use Rattle.complexes.specs.Meaning.{jobOf, complexOf, Marked}
+use Rattle.complexes.specs.Meaning.{jobOf, Marked}
 use Rattle.complexes.specs.declared.Job.{Job}
-use Rattle.lookup.specs.Indexed.{Indexed}
+use Rattle.lookup.specs.Indexed.{Blank}
+use Rattle.lent_lists.specs.Held.{complexIn, Held}
 use Rattle.jobs.specs.declared.JobRead.{JobRead}
+use Rattle.jobs.specs.declared.NumbersRead.{NumbersRead}
 use Rattle.jobs.specs.declared.ListsRead.{ListsRead}
 
 -- A head that was accepted: one of the two questions, in its range, with few enough vertices.
@@ -44,6 +44,30 @@ pub record ListSound (kind v : ℕ) (faces l : List Simplex) : Type 0 where
   pub sound : SoundList kind v faces l
   pub few : length l ≤ small .simplices
 
+-- the job that was read, its lists in lent arrays
+abbrev pub jobIn : NumbersRead → List ℕ → List ℕ → List ℕ → SimplexSet → format.Job
+jobIn j eKeys tKeys sKeys A = record {
+  question = questionOf (j .head .question);
+  d = j .head .d;
+  complex = complexIn (j .head .v) (j .counts) eKeys tKeys sKeys;
+  chain = A;
+}
+
+-- lent arrays that hold nothing yet
+pub record Lent (eKeys eFirst eNext tKeys tFirst tNext sKeys : List ℕ) : Type 0 where
+  pub edges : Blank eKeys eFirst eNext
+  pub triangles : Blank tKeys tFirst tNext
+  pub tetrahedra : 512 ≤ length sKeys
+
+-- What reading comes to in lent arrays: the verdict and the job are the definition's; where nothing was refused, the arrays
+-- hold the complex after all edits, and the marks are A's members by rank.
+pub record Told (r : Reading format.Job) (eKeys eFirst eNext tKeys tFirst tNext sKeys : List ℕ) (j : NumbersRead) : Type 0 where
+  pub set : SimplexSet
+  pub is : r ≡ readingOf (j .verdict) (jobIn j eKeys tKeys sKeys set)
+  pub held : j .verdict ≡ Fine → Held (j .head .v) (j .counts) eKeys eFirst eNext tKeys tFirst tNext sKeys
+  pub marks : j .verdict ≡ Fine → Marked (j .marks .on) (rows (jobIn j eKeys tKeys sKeys set)) set
+  pub head : j .verdict ≡ Fine → SoundHead (j .head)
+
 -- the three lists of a file, and the offset behind them
 pub record Lists : Type 0 where
   pub complex : simplices.Complex
@@ -57,13 +81,10 @@ readLists b at v =
     readList small b (t .next) tetrahedraKind v (t .list) andThen λ s.
     accepted (record { complex = record { v = v; edges = e .list; triangles = t .list; tetrahedra = s .list }; next = s .next })
 
--- What reading the lists leaves: the definition's reading; and where nothing was refused, a sound complex and an index of its
--- edges.
-pub record ListsTold (b : List ℕ) (at v : ℕ) (keys first next : List ℕ) (r : ListsRead) : Type 0 where
-  pub reads : readLists b at v ≡ readingOf (r .verdict) (record { complex = complexOf (r .complex); next = r .next })
-  pub sound : r .verdict ≡ Fine → v ≤ 256 → SoundComplex small (complexOf (r .complex))
-  pub vertices : r .verdict ≡ Fine → v ≡ r .complex .v
-  pub indexed : r .verdict ≡ Fine → Indexed (simplicesOf (r .complex .edges)) keys first next (r .complex .edges .count)
+-- What reading the lists leaves: the definition's reading; and where nothing was refused, the arrays hold a sound complex.
+pub record ListsTold (b : List ℕ) (at v : ℕ) (eKeys eFirst eNext tKeys tFirst tNext sKeys : List ℕ) (r : ListsRead) : Type 0 where
+  pub reads : readLists b at v ≡ readingOf (r .verdict) (record { complex = complexIn v (r .counts) eKeys tKeys sKeys; next = r .next })
+  pub held : r .verdict ≡ Fine → v ≤ 256 → Held v (r .counts) eKeys eFirst eNext tKeys tFirst tNext sKeys
 
 -- A job of the code that means a sound job: A is the set that its marks hold.
 pub record Readable (j : Job) : Type 0 where
@@ -72,3 +93,11 @@ pub record Readable (j : Job) : Type 0 where
   pub head : SoundHead (j .head)
   pub v : j .head .v ≡ j .complex .v
   pub marks : Marked (j .marks .on) (rows (jobOf j set)) set
+
+-- A sound job that lent arrays hold: the same, of numbers.
+pub record Asking (j : NumbersRead) (eKeys eFirst eNext tKeys tFirst tNext sKeys : List ℕ) : Type 0 where
+  pub set : SimplexSet
+  pub sound : SoundJob small (jobIn j eKeys tKeys sKeys set)
+  pub head : SoundHead (j .head)
+  pub held : Held (j .head .v) (j .counts) eKeys eFirst eNext tKeys tFirst tNext sKeys
+  pub marks : Marked (j .marks .on) (rows (jobIn j eKeys tKeys sKeys set)) set

@@ -1,9 +1,11 @@
-// The job reader: every byte string becomes a job or a numbered refusal with its place. Each stage hands on to the next.
+// The job reader: every byte string becomes a job or a numbered refusal with its place. Each stage hands on to the next, and
+// the lists stay where they were read: as numbers in lent arrays, of edges (e), triangles (t) and tetrahedra (s).
 use complexes::Complex;
 use complexes::Job;
 use heads::Head;
 use heads::HeadRead;
 use keys::BUCKETS;
+use lent_lists::Counts;
 use lists::Marks;
 use lists::SimplexList;
 use lists::Verdict;
@@ -13,12 +15,10 @@ ghost use Prim.Native.Nat.{_≤_};
 ghost use lib.ListN.{length};
 ghost use Rattle.format.specs.Numbers.{small};
 ghost use Rattle.format.specs.Reading.{reading, afterHead, afterLists, chainDimension, questionOf};
-ghost use Rattle.format.specs.Sound.{SoundComplex};
-ghost use Rattle.lists.specs.Meaning.{simplicesOf};
-ghost use Rattle.lookup.specs.Indexed.{Indexed, Blank};
+ghost use Rattle.lookup.specs.Indexed.{Blank};
 ghost use Rattle.heads.specs.Meaning.{headOf};
-ghost use Rattle.complexes.specs.Meaning.{complexOf};
-ghost use Rattle.jobs.specs.Meaning.{Outcome, SoundHead, ListsTold};
+ghost use Rattle.lent_lists.specs.Held.{complexIn, Held};
+ghost use Rattle.jobs.specs.Meaning.{Outcome, SoundHead, ListsTold, Lent, Told};
 
 // A verdict, and the job beside it, which counts only where nothing was refused.
 pub struct JobRead {
@@ -44,6 +44,28 @@ impl JobRead {
     }
 }
 
+// The same with the lists left in lent arrays: the question, how many simplices each list has, and A as marks by rank, which
+// count only where nothing was refused.
+pub struct NumbersRead {
+    pub verdict: Verdict,
+    pub head: Head,
+    pub counts: Counts,
+    pub marks: Marks,
+}
+
+impl NumbersRead {
+    fn refused(number: u16, place: usize) -> Self
+        ensures { λ r. ⌜ r .verdict ≡ Verdict.Refused number place ⌝ }
+    {
+        NumbersRead {
+            verdict: Verdict::Refused(number, place),
+            head: Head::new(1, 1, 0),
+            counts: Counts::none(),
+            marks: Marks::none(),
+        }
+    }
+}
+
 // The dimension of A: one below the answer's for a filling, the answer's for a class.
 pub fn chain_dimension(head: Head) -> usize
     ensures { λ r. ⌜ r ≡ chainDimension (questionOf (head .question)) (head .d) ⌝ }
@@ -58,51 +80,10 @@ pub fn chain_dimension(head: Head) -> usize
     d
 }
 
-// What is asked about, and then the edits. The edges are entered, for a walk.
-fn after_lists(
-    job: &[u8],
-    head: Head,
-    at: usize,
-    complex: Complex,
-    keys: &[u64],
-    first: &[u16],
-    next: &[u16],
-) -> JobRead
-    requires { ⌜ length (now job) ≤ 6690 ⌝ }
-    requires { ⌜ SoundHead head ⌝ }
-    requires { ⌜ head .v ≡ complex .v ⌝ }
-    requires { ⌜ SoundComplex small (complexOf complex) ⌝ }
-    requires { ⌜ Indexed (simplicesOf (complex .edges)) (now keys) (now first) (now next) (complex .edges .count) ⌝ }
-    ensures { λ r. ⌜ Outcome (afterLists small (now (job .entry)) (headOf head) at (complexOf complex)) r ⌝ }
-{
-    let dim = chain_dimension(head);
-    let asked = chain_stage::read_chain(job, at, dim, complex, keys, first, next);
-    let verdict = asked.verdict;
-    match verdict {
-        Verdict::Refused(number, place) => JobRead::refused(number, place),
-        Verdict::Fine => {
-            let marks = asked.marks;
-            let behind = asked.next;
-            let edited = edits::read_edits(job, behind, complex, marks, dim);
-            let verdict = edited.verdict;
-            let complex = edited.complex;
-            let marks = edited.marks;
-            JobRead {
-                verdict,
-                job: Job {
-                    head,
-                    complex,
-                    marks,
-                },
-            }
-        }
-    }
-}
-
 // The three lists as they were read, which count only where nothing was refused, and the offset behind them.
 struct ListsRead {
     pub verdict: Verdict,
-    pub complex: Complex,
+    pub counts: Counts,
     pub next: usize,
 }
 
@@ -112,24 +93,28 @@ impl ListsRead {
     {
         ListsRead {
             verdict: Verdict::Refused(number, place),
-            complex: Complex::empty(),
+            counts: Counts::none(),
             next: 0,
         }
     }
 }
 
 // The edges, the triangles over them and the tetrahedra over those. An edge's facets are vertices, which no list holds, so no
-// faces are entered for it. The edges stay entered in the lent arrays.
+// faces are entered for it. No facet is a tetrahedron, so theirs are chained for the look-up of doubles alone.
 fn read_lists(
     job: &[u8],
     at: usize,
     v: u16,
-    keys: &mut [u64],
-    first: &mut [u16],
-    next: &mut [u16],
+    e_keys: &mut [u64],
+    e_first: &mut [u16],
+    e_next: &mut [u16],
+    t_keys: &mut [u64],
+    t_first: &mut [u16],
+    t_next: &mut [u16],
+    s_keys: &mut [u64],
 ) -> ListsRead
-    requires { ⌜ Blank (now keys) (now first) (now next) ⌝ }
-    ensures { λ r. ⌜ ListsTold (now (job .entry)) at v (now (keys .exit)) (now (first .exit)) (now (next .exit)) r ⌝ }
+    requires { ⌜ Lent (now «e_keys») (now «e_first») (now «e_next») (now «t_keys») (now «t_first») (now «t_next») (now «s_keys») ⌝ }
+    ensures { λ r. ⌜ ListsTold (now (job .entry)) at v (now («e_keys» .exit)) (now («e_first» .exit)) (now («e_next» .exit)) (now («t_keys» .exit)) (now («t_first» .exit)) (now («t_next» .exit)) (now («s_keys» .exit)) r ⌝ }
 {
     let no_keys = [0u64; 1];
     let no_first = [0u16; BUCKETS];
@@ -143,35 +128,31 @@ fn read_lists(
         &no_first,
         &no_next,
         0,
-        keys,
-        first,
-        next,
+        e_keys,
+        e_first,
+        e_next,
     );
     let edges_verdict = e.verdict;
     if let Verdict::Refused(number, place) = edges_verdict {
         return ListsRead::refused(number, place);
     }
-    let mut t_keys = [0u64; SimplexList::LIMIT];
-    let mut t_first = [0u16; BUCKETS];
-    let mut t_next = [0u16; SimplexList::LIMIT];
     let t = stages::read_list(
         job,
         e.next,
         SimplexList::TRIANGLES,
         v,
-        keys,
-        first,
-        next,
-        e.list.count,
-        &mut t_keys,
-        &mut t_first,
-        &mut t_next,
+        e_keys,
+        e_first,
+        e_next,
+        e.count,
+        t_keys,
+        t_first,
+        t_next,
     );
     let triangles_verdict = t.verdict;
     if let Verdict::Refused(number, place) = triangles_verdict {
         return ListsRead::refused(number, place);
     }
-    let mut s_keys = [0u64; SimplexList::LIMIT];
     let mut s_first = [0u16; BUCKETS];
     let mut s_next = [0u16; SimplexList::LIMIT];
     let s = stages::read_list(
@@ -179,47 +160,172 @@ fn read_lists(
         t.next,
         SimplexList::TETRAHEDRA,
         v,
-        &t_keys,
-        &t_first,
-        &t_next,
-        t.list.count,
-        &mut s_keys,
+        t_keys,
+        t_first,
+        t_next,
+        t.count,
+        s_keys,
         &mut s_first,
         &mut s_next,
     );
     let verdict = s.verdict;
-    let edges = e.list;
-    let triangles = t.list;
-    let tetrahedra = s.list;
     ListsRead {
         verdict,
-        complex: Complex {
-            v,
-            edges,
-            triangles,
-            tetrahedra,
+        counts: Counts {
+            edges: e.count,
+            triangles: t.count,
+            tetrahedra: s.count,
         },
         next: s.next,
     }
 }
 
-// The lists, and then what is asked about.
-fn after_head(job: &[u8], head: Head, at: usize) -> JobRead
+// What is asked about, and then the edits.
+fn after_lists(
+    job: &[u8],
+    head: Head,
+    at: usize,
+    counts: Counts,
+    e_keys: &mut [u64],
+    e_first: &mut [u16],
+    e_next: &mut [u16],
+    t_keys: &mut [u64],
+    t_first: &mut [u16],
+    t_next: &mut [u16],
+    s_keys: &mut [u64],
+) -> NumbersRead
     requires { ⌜ length (now job) ≤ 6690 ⌝ }
     requires { ⌜ SoundHead head ⌝ }
-    ensures { λ r. ⌜ Outcome (afterHead small (now (job .entry)) at (headOf head)) r ⌝ }
+    requires { ⌜ Held (head .v) counts (now «e_keys») (now «e_first») (now «e_next») (now «t_keys») (now «t_first») (now «t_next») (now «s_keys») ⌝ }
+    ensures { λ r. ⌜ Told (afterLists small (now (job .entry)) (headOf head) at (complexIn (head .v) counts (now («e_keys» .entry)) (now («t_keys» .entry)) (now («s_keys» .entry)))) (now («e_keys» .exit)) (now («e_first» .exit)) (now («e_next» .exit)) (now («t_keys» .exit)) (now («t_first» .exit)) (now («t_next» .exit)) (now («s_keys» .exit)) r ⌝ }
 {
-    let mut keys = [0u64; SimplexList::LIMIT];
-    let mut first = [0u16; BUCKETS];
-    let mut next = [0u16; SimplexList::LIMIT];
-    let lists = read_lists(job, at, head.v, &mut keys, &mut first, &mut next);
+    let v = head.v;
+    let dim = chain_dimension(head);
+    let count = counts.of(v, dim);
+    let edges = counts.edges;
+    let asked = chain_stage::read_chain(job, at, dim, count, edges, e_keys, e_first, e_next);
+    let verdict = asked.verdict;
+    if let Verdict::Refused(number, place) = verdict {
+        return NumbersRead::refused(number, place);
+    }
+    let marks = asked.marks;
+    let edited = lent_lists::take_edits(
+        job,
+        asked.next,
+        v,
+        counts,
+        marks,
+        dim,
+        e_keys,
+        e_first,
+        e_next,
+        t_keys,
+        t_first,
+        t_next,
+        s_keys,
+    );
+    let verdict_after = edited.verdict;
+    let counts_after = edited.counts;
+    let marks_after = edited.marks;
+    NumbersRead {
+        verdict: verdict_after,
+        head,
+        counts: counts_after,
+        marks: marks_after,
+    }
+}
+
+// The lists, and then what is asked about.
+fn after_head(
+    job: &[u8],
+    head: Head,
+    at: usize,
+    e_keys: &mut [u64],
+    e_first: &mut [u16],
+    e_next: &mut [u16],
+    t_keys: &mut [u64],
+    t_first: &mut [u16],
+    t_next: &mut [u16],
+    s_keys: &mut [u64],
+) -> NumbersRead
+    requires { ⌜ length (now job) ≤ 6690 ⌝ }
+    requires { ⌜ SoundHead head ⌝ }
+    requires { ⌜ Lent (now «e_keys») (now «e_first») (now «e_next») (now «t_keys») (now «t_first») (now «t_next») (now «s_keys») ⌝ }
+    ensures { λ r. ⌜ Told (afterHead small (now (job .entry)) at (headOf head)) (now («e_keys» .exit)) (now («e_first» .exit)) (now («e_next» .exit)) (now («t_keys» .exit)) (now («t_first» .exit)) (now («t_next» .exit)) (now («s_keys» .exit)) r ⌝ }
+{
+    let lists = read_lists(
+        job,
+        at,
+        head.v,
+        e_keys,
+        e_first,
+        e_next,
+        t_keys,
+        t_first,
+        t_next,
+        s_keys,
+    );
     let verdict = lists.verdict;
-    match verdict {
-        Verdict::Refused(number, place) => JobRead::refused(number, place),
-        Verdict::Fine => {
-            let complex = lists.complex;
-            let behind = lists.next;
-            after_lists(job, head, behind, complex, &keys, &first, &next)
+    if let Verdict::Refused(number, place) = verdict {
+        return NumbersRead::refused(number, place);
+    }
+    let counts = lists.counts;
+    after_lists(
+        job,
+        head,
+        lists.next,
+        counts,
+        e_keys,
+        e_first,
+        e_next,
+        t_keys,
+        t_first,
+        t_next,
+        s_keys,
+    )
+}
+
+// Reads a job file, any bytes of any length, and leaves its lists in the lent arrays.
+pub fn read_numbers(
+    job: &[u8],
+    e_keys: &mut [u64],
+    e_first: &mut [u16],
+    e_next: &mut [u16],
+    t_keys: &mut [u64],
+    t_first: &mut [u16],
+    t_next: &mut [u16],
+    s_keys: &mut [u64],
+) -> NumbersRead
+    requires { ⌜ Lent (now «e_keys») (now «e_first») (now «e_next») (now «t_keys») (now «t_first») (now «t_next») (now «s_keys») ⌝ }
+    ensures { λ r. ⌜ Told (reading small (now (job .entry))) (now («e_keys» .exit)) (now («e_first» .exit)) (now («e_next» .exit)) (now («t_keys» .exit)) (now («t_first» .exit)) (now («t_next» .exit)) (now («s_keys» .exit)) r ⌝ }
+{
+    if JobRead::BYTES < job.len() {
+        return NumbersRead::refused(Verdict::TOO_LONG, 0);
+    }
+    let opened = stages::open(job, 0, Head::KIND);
+    match opened {
+        Opened::Refused(number) => NumbersRead::refused(number, 0),
+        Opened::Size(size) => {
+            if size != Head::BYTES {
+                return NumbersRead::refused(Verdict::SHAPE, 0);
+            }
+            let p = records::payload(job, 0, size);
+            let read = heads::read_head(p);
+            match read {
+                HeadRead::Bad => NumbersRead::refused(Verdict::HEAD, 0),
+                HeadRead::Sound(head) => after_head(
+                    job,
+                    head,
+                    10,
+                    e_keys,
+                    e_first,
+                    e_next,
+                    t_keys,
+                    t_first,
+                    t_next,
+                    s_keys,
+                ),
+            }
         }
     }
 }
@@ -228,21 +334,38 @@ fn after_head(job: &[u8], head: Head, at: usize) -> JobRead
 pub fn read_job(job: &[u8]) -> JobRead
     ensures { λ r. ⌜ Outcome (reading small (now (job .entry))) r ⌝ }
 {
-    if JobRead::BYTES < job.len() {
-        return JobRead::refused(Verdict::TOO_LONG, 0);
-    }
-    let opened = stages::open(job, 0, Head::KIND);
-    match opened {
-        Opened::Refused(number) => JobRead::refused(number, 0),
-        Opened::Size(size) => {
-            if size != Head::BYTES {
-                return JobRead::refused(Verdict::SHAPE, 0);
-            }
-            let p = records::payload(job, 0, size);
-            let read = heads::read_head(p);
-            match read {
-                HeadRead::Bad => JobRead::refused(Verdict::HEAD, 0),
-                HeadRead::Sound(head) => after_head(job, head, 10),
+    let mut e_keys = [0u64; SimplexList::LIMIT];
+    let mut e_first = [0u16; BUCKETS];
+    let mut e_next = [0u16; SimplexList::LIMIT];
+    let mut t_keys = [0u64; SimplexList::LIMIT];
+    let mut t_first = [0u16; BUCKETS];
+    let mut t_next = [0u16; SimplexList::LIMIT];
+    let mut s_keys = [0u64; SimplexList::LIMIT];
+    let read = read_numbers(
+        job,
+        &mut e_keys,
+        &mut e_first,
+        &mut e_next,
+        &mut t_keys,
+        &mut t_first,
+        &mut t_next,
+        &mut s_keys,
+    );
+    let verdict = read.verdict;
+    match verdict {
+        Verdict::Refused(number, place) => JobRead::refused(number, place),
+        Verdict::Fine => {
+            let head = read.head;
+            let counts = read.counts;
+            let marks = read.marks;
+            let complex = lent_lists::complex_of(head.v, counts, &e_keys, &t_keys, &s_keys);
+            JobRead {
+                verdict: Verdict::Fine,
+                job: Job {
+                    head,
+                    complex,
+                    marks,
+                },
             }
         }
     }

@@ -1,6 +1,6 @@
 -- A simplex's own number: its vertices are the digits. Simplices of one dimension with the same number are the same.
-use Prim.Native.Nat.{ℕ, _+_, _*_, _≤_, _<_}
-use mathlib.Core.Path.{_≡_, refl, ap₂}
+use Prim.Native.Nat.{ℕ, zero, suc, _+_, _*_, _/_, _%_, _≤_, _<_}
+use mathlib.Core.Path.{_≡_, refl, ap, ap₂, _∙_}
 use mathlib.Core.List.{List, [], _∷_}
 use native.Mathlib.Omega.{arith}
 use lib.ListN.{length, getD}
@@ -24,6 +24,33 @@ number-same [] (b ∷ m) size d e same = absurd (omega arith)
 number-same (a ∷ l) [] size d e same = absurd (omega arith)
 number-same (a ∷ l) (b ∷ m) size (more p d) (more q e) same =
     ap₂ (λ (x : ℕ) (y : List ℕ). x ∷ y) (omega arith) (number-same l m (omega arith) d e (omega arith))
+
+pub number-none : number [] ≡ 0
+unfolding number
+number-none = refl
+
+pub number-more : (a : ℕ) (l : List ℕ) → number (a ∷ l) ≡ a + digit * number l
+unfolding number
+number-more a l = refl
+
+-- the digits of a number, so many of them
+unfoldable pub digitsOf : (width number : ℕ) → List ℕ
+digitsOf zero k = []
+digitsOf (suc w) k = k % digit ∷ digitsOf w (k / digit)
+
+-- are the vertices that it was made of
+pub digits-own : (l : List ℕ) → Digits l → digitsOf (length l) (number l) ≡ l
+unfolding number digitsOf
+digits-own [] d = refl
+digits-own (a ∷ l) (more lt d) =
+    let low : (a + digit * number l) % digit ≡ a = omega arith in
+    let high : (a + digit * number l) / digit ≡ number l = omega arith in
+    ap₂ (λ (x : ℕ) (y : List ℕ). x ∷ y) low (ap (digitsOf (length l)) high ∙ digits-own l d)
+
+pub length-digits : (width k : ℕ) → length (digitsOf width k) ≡ width
+unfolding digitsOf
+length-digits zero k = refl
+length-digits (suc w) k = ap suc (length-digits w (k / digit))
 
 -- at most four digits, written out
 pub number-four : (l : List ℕ) → length l ≤ 4

@@ -2,13 +2,16 @@
 // (crate `keys`), so that neither a list is gone through nor copied.
 ghost use mathlib.Core.Path.{_≡_};
 ghost use mathlib.Core.List.{List};
-ghost use Prim.Native.Nat.{ℕ, suc, _<_};
+ghost use Prim.Native.Nat.{ℕ, suc, _≤_, _<_};
 ghost use lib.ListN.{length};
 ghost use Rattle.format.specs.Simplex.{rank, facets, allListed};
 ghost use Rattle.format.specs.Simplex as format;
 ghost use Rattle.lists.specs.Meaning.{verticesOf, simplicesOf, rankOf};
+ghost use Rattle.format.specs.Reading.{without};
 ghost use Rattle.keys.specs.Chained.{Chained};
+ghost use Rattle.keys.specs.Number.{digitsOf};
 ghost use Rattle.lookup.specs.Indexed.{NumberOf, Keyed, Proper, Blank, Entered, Indexed};
+ghost use Rattle.lookup.specs.Numbered.{simplicesIn};
 use lists::Found;
 use lists::Simplex;
 use lists::SimplexList;
@@ -24,17 +27,63 @@ pub fn number_of(s: Simplex) -> u64
     a + 65536 * (b + 65536 * (c + 65536 * d))
 }
 
-// The rank of a simplex in the list whose numbers the first n keys are.
-pub fn find(keys: &[u64], first: &[u16], next: &[u16], n: usize, s: Simplex) -> Found
-    requires { ⌜ Chained (now keys) (now first) (now next) n ⌝ }
-    ensures { λ r. ⌜ ((l : List format.Simplex) → Proper (length (verticesOf s)) l → Keyed l (now (keys .entry)) n → rankOf r ≡ rank (verticesOf s) l) ⌝ }
+// The simplex of `width` vertices that has a number.
+pub fn simplex_of(number: u64, width: usize) -> Simplex
+    requires { ⌜ (1 ≤ width) × (width ≤ 4) ⌝ }
+    ensures { λ r. ⌜ verticesOf r ≡ digitsOf width number ⌝ }
 {
-    let place = keys::find(keys, first, next, n, number_of(s));
+    Simplex {
+        vertices: [
+            (number % 65536) as u16,
+            (number / 65536 % 65536) as u16,
+            (number / 65536 / 65536 % 65536) as u16,
+            (number / 65536 / 65536 / 65536 % 65536) as u16,
+        ],
+        dim: (width - 1) as u16,
+    }
+}
+
+// The number of the facet that leaves out vertex number `skip`, from the simplex's own number.
+pub fn facet_number(number: u64, skip: usize) -> u64
+    ensures { λ r. ⌜ ((s : format.Simplex) → NumberOf s number → length s ≤ 4 → skip < length s → NumberOf (without skip s) r) ⌝ }
+{
+    let a = number % 65536;
+    let behind_a = number / 65536;
+    if skip == 0 {
+        return behind_a;
+    }
+    let b = behind_a % 65536;
+    let behind_b = behind_a / 65536;
+    if skip == 1 {
+        return a + 65536 * behind_b;
+    }
+    let c = behind_b % 65536;
+    let behind_c = behind_b / 65536;
+    if skip == 2 {
+        return a + 65536 * (b + 65536 * behind_c);
+    }
+    a + 65536 * (b + 65536 * c)
+}
+
+// The rank of the simplex that has a number, in the list whose numbers the first n keys are.
+pub fn rank_of(keys: &[u64], first: &[u16], next: &[u16], n: usize, number: u64) -> Found
+    requires { ⌜ Chained (now keys) (now first) (now next) n ⌝ }
+    ensures { λ r. ⌜ ((s : format.Simplex) → NumberOf s number → (l : List format.Simplex) → Proper (length s) l → Keyed l (now (keys .entry)) n → rankOf r ≡ rank s l) ⌝ }
+{
+    let place = keys::find(keys, first, next, n, number);
     if place == 0 {
         Found::Missing
     } else {
         Found::At(place - 1)
     }
+}
+
+// The rank of a simplex in the list whose numbers the first n keys are.
+pub fn find(keys: &[u64], first: &[u16], next: &[u16], n: usize, s: Simplex) -> Found
+    requires { ⌜ Chained (now keys) (now first) (now next) n ⌝ }
+    ensures { λ r. ⌜ ((l : List format.Simplex) → Proper (length (verticesOf s)) l → Keyed l (now (keys .entry)) n → rankOf r ≡ rank (verticesOf s) l) ⌝ }
+{
+    rank_of(keys, first, next, n, number_of(s))
 }
 
 // Enters a simplex behind the first n.
@@ -58,6 +107,21 @@ pub fn index(list: SimplexList, keys: &mut [u64], first: &mut [u16], next: &mut 
         i += 1;
     }
     n
+}
+
+// The list that the first n numbers stand for, simplices of `width` vertices.
+pub fn list_of(keys: &[u64], n: usize, width: usize) -> SimplexList
+    requires { ⌜ (1 ≤ width) × (width ≤ 4) ⌝ }
+    requires { ⌜ (n ≤ 512) × (n ≤ length (now keys)) ⌝ }
+    ensures { λ r. ⌜ simplicesOf r ≡ simplicesIn width (now (keys .entry)) n ⌝ }
+{
+    let mut list = SimplexList::empty();
+    while list.count < n {
+        let at = list.count;
+        list.items[at] = simplex_of(keys[at], width);
+        list.count = at + 1;
+    }
+    list
 }
 
 // Whether every facet of a simplex is in the list whose numbers the first n keys are.

@@ -11,10 +11,9 @@ use Rattle.format.specs.Answer.{Answered, refusalRecord}
 use Rattle.format.specs.Promise.{AnswerPromise, no-room, answered, over}
 use Rattle.lists.specs.Verdicts.{readingOf}
 use Rattle.lists.specs.declared.Verdict.the-variants.{Fine, Refused}
-use Rattle.complexes.specs.Meaning.{jobOf}
-use Rattle.jobs.specs.Meaning.{Outcome, Readable}
-use Rattle.jobs.specs.Known.{read-accepted, read-readable}
-use Rattle.jobs.specs.declared.JobRead.{JobRead}
+use Rattle.jobs.specs.Meaning.{jobIn, Told, Asking}
+use Rattle.jobs.specs.Known.{told-accepted, told-asking}
+use Rattle.jobs.specs.declared.NumbersRead.{NumbersRead}
 use Rattle.writer.specs.Meaning.{Put}
 use Rattle.answering.specs.Meaning.{Answers}
 
@@ -37,14 +36,20 @@ module _ (job out work : List ℕ) where
     pub kept : {count : ℕ} {after cleared : List ℕ} (answer : List ℕ) → Answered (reading small job) answer → Put out 0 answer after count → cleared ≡ replicate (length work) 0 → AnswerPromise small job out work count after cleared
     kept answer is put clear = answered room memory answer is (put-count put) (put-over put) clear
 
-    pub kept-refusal : {count : ℕ} {after cleared : List ℕ} (r : JobRead) (n p : ℕ) → Outcome (reading small job) r → r .verdict ≡ Refused n p → Put out 0 (refusalRecord n p) after count → cleared ≡ replicate (length work) 0 → AnswerPromise small job out work count after cleared
-    kept-refusal r n p o v put clear =
-        kept (refusalRecord n p)
-        (subst (λ x. Answered x (refusalRecord n p)) (sym (o .is ∙ ap (λ x. readingOf x (jobOf (r .job) (o .set))) v)) refl)
-        put clear
+    -- what was read, and the arrays that hold it
+    module _ {eKeys eFirst eNext tKeys tFirst tNext sKeys : List ℕ} (r : NumbersRead)
+        (o : Told (reading small job) eKeys eFirst eNext tKeys tFirst tNext sKeys r) {count : ℕ} {after cleared : List ℕ} where
+      pub kept-refusal : (n p : ℕ) → r .verdict ≡ Refused n p → Put out 0 (refusalRecord n p) after count → cleared ≡ replicate (length work) 0
+          → AnswerPromise small job out work count after cleared
+      kept-refusal n p v put clear =
+          kept (refusalRecord n p)
+          (subst (λ x. Answered x (refusalRecord n p)) (sym (o .is ∙ ap (λ x. readingOf x (jobIn r eKeys tKeys sKeys (o .set))) v)) refl)
+          put clear
 
-    pub kept-answer : {count : ℕ} {after cleared : List ℕ} (r : JobRead) (o : Outcome (reading small job) r) → r .verdict ≡ Fine → ((k : Readable (r .job)) → Answers (jobOf (r .job) (k .set)) out after count) → cleared ≡ replicate (length work) 0 → AnswerPromise small job out work count after cleared
-    unfolding read-readable
-    kept-answer r o f answers clear =
-        let a = answers (read-readable job r o f) in
-        kept (a .answer) (subst (λ x. Answered x (a .answer)) (sym (read-accepted job r o f)) (a .is)) (a .put) clear
+      pub kept-answer : r .verdict ≡ Fine
+          → ((k : Asking r eKeys eFirst eNext tKeys tFirst tNext sKeys) → Answers (jobIn r eKeys tKeys sKeys (k .set)) out after count)
+          → cleared ≡ replicate (length work) 0 → AnswerPromise small job out work count after cleared
+      unfolding told-asking
+      kept-answer f answers clear =
+          let a = answers (told-asking job r o f) in
+          kept (a .answer) (subst (λ x. Answered x (a .answer)) (sym (told-accepted job r o f)) (a .is)) (a .put) clear

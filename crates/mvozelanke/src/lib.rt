@@ -1,4 +1,7 @@
-// The panel's calls: numbers and byte slices, no demands on the caller. Everything that matters stands below this crate.
+// The panel's calls: numbers and byte slices, no demands on the caller. Everything that matters stands below this crate. The
+// answer call lends the arrays in which a job's lists stay from reading to answer (crate `lent_lists`).
+use keys::BUCKETS;
+use lists::SimplexList;
 use lists::Verdict;
 ghost use Rattle.format.specs.Numbers.{small};
 ghost use Rattle.format.specs.Promise.{AnswerPromise, WritePromise};
@@ -17,7 +20,23 @@ pub extern "C" fn mvz_answer(job: &[u8], out: &mut [u8], work: &mut [u8]) -> usi
     if memory < 65536 {
         return 0;
     }
-    let read = jobs::read_job(job);
+    let mut e_keys = [0u64; SimplexList::LIMIT];
+    let mut e_first = [0u16; BUCKETS];
+    let mut e_next = [0u16; SimplexList::LIMIT];
+    let mut t_keys = [0u64; SimplexList::LIMIT];
+    let mut t_first = [0u16; BUCKETS];
+    let mut t_next = [0u16; SimplexList::LIMIT];
+    let mut s_keys = [0u64; SimplexList::LIMIT];
+    let read = jobs::read_numbers(
+        job,
+        &mut e_keys,
+        &mut e_first,
+        &mut e_next,
+        &mut t_keys,
+        &mut t_first,
+        &mut t_next,
+        &mut s_keys,
+    );
     let verdict = read.verdict;
     match verdict {
         Verdict::Refused(number, place) => {
@@ -26,8 +45,18 @@ pub extern "C" fn mvz_answer(job: &[u8], out: &mut [u8], work: &mut [u8]) -> usi
             count
         }
         Verdict::Fine => {
-            let asked = read.job;
-            let count = answering::answer_job(out, work, asked);
+            let count = answering::answer_job(
+                out,
+                work,
+                read,
+                &e_keys,
+                &e_first,
+                &e_next,
+                &t_keys,
+                &t_first,
+                &t_next,
+                &s_keys,
+            );
             columns::clear(work);
             count
         }

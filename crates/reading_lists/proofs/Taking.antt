@@ -1,27 +1,27 @@
 -- The items of a payload are taken one by one. Why the loop reads what the definition reads: what the definition still
 -- has to do behind the items taken stays what it had to do at the start; a refusal, or the last item, ends both.
 use Prim.Native.Nat.{ℕ, _+_, _-_, _*_, _≤_, _<_}
-use native.Mathlib.Nat.{lt-of-mul-lt-mul-left, mul-add, mul-one, mul-zero, add-assoc, add-zero}
+use native.Mathlib.Nat.{le-of-mul-le-mul-left, lt-of-mul-lt-mul-left, mul-add, mul-one, mul-zero, add-assoc, add-zero}
 use native.Mathlib.Omega.{arith}
 use native.Mathlib.Numerals.{add-one}
 use mathlib.Core.Path.{_≡_, refl, sym, ap, _∙_, subst, subst₂}
 use mathlib.Core.Bool.{Bool, true, false, not, cond}
 use mathlib.Core.List.{List, [], _∷_, _++_}
-use lib.ListN.{length, take, drop, set, length-drop, length-set}
+use lib.ListN.{length, take, drop, length-drop}
 use lib.Seq.{drop-drop}
 use Rattle.format.specs.Numbers.{vertex, twice, face}
 use Rattle.format.specs.Simplex.{soundSimplex, listed, allListed}
 use Rattle.format.specs.Simplex as format
 use Rattle.format.specs.Reading.{Reading, accepted, refused, refuseIf, owedFacets, itemsOf, readItems}
 use Rattle.format.specs.Items.{items-next, items-none}
-use Rattle.lists.specs.Meaning.{verticesOf, simplicesOf}
-use Rattle.lists.specs.Items.{appended}
+use Rattle.lists.specs.Meaning.{verticesOf}
 use Rattle.lists.proofs.Four.{length-part}
 use Rattle.lists.specs.declared.Verdict.the-variants.{Fine, Refused}
 use Rattle.lookup.specs.Indexed.{Proper, Indexed, Blank, Entered}
 use Rattle.lookup.specs.IndexLaws.{proper-none, proper-more, indexed-none, indexed-more}
+use Rattle.lookup.specs.Numbered.{simplicesIn}
+use Rattle.lookup.specs.NumberedLaws.{none-in, more-in}
 use Rattle.lists.specs.declared.Simplex.{Simplex}
-use Rattle.lists.specs.declared.SimplexList.{SimplexList}
 use Rattle.reading_lists.specs.Items.{refusalOf, FacesIn, Judged, ItemsTold, Shaped}
 
 -- three checks in a row: the first that holds refuses, and where none does the reading goes on
@@ -53,62 +53,61 @@ module _ (width v : ℕ) (faces : List format.Simplex) (at : ℕ) (before : List
   unfolding readItems refusalOf
   item-passed h = checked-passed at _ (not (soundSimplex v s)) (listed s before) (not (allListed (owedFacets width s) faces)) h
 
--- The items up to `at` are taken into the list and entered, and the rest is still to be read, over whatever list the faces'
--- keys are of.
-pub record Taking (p : List ℕ) (base v width : ℕ) (faceKeys : List ℕ) (m : ℕ) (list : SimplexList) (at : ℕ)
+-- The items up to `at` are entered, and the rest is still to be read, over whatever list the faces' keys are of.
+pub record Taking (p : List ℕ) (base v width : ℕ) (faceKeys : List ℕ) (m count at : ℕ)
     (keys₀ first₀ next₀ keys first next : List ℕ) : Type 0 where
-  pub full : length (list .items) ≡ 512
-  pub taken : width * list .count ≡ at
+  pub taken : width * count ≡ at
   pub within : at ≤ length p
   pub rest : (faces : List format.Simplex) → FacesIn width faces faceKeys m
-      → readItems width v faces base [] (itemsOf width p) ≡ readItems width v faces (base + at) (simplicesOf list) (itemsOf width (drop at p))
-  pub proper : Proper width (simplicesOf list)
-  pub indexed : Indexed (simplicesOf list) keys first next (list .count)
+      → readItems width v faces base [] (itemsOf width p) ≡ readItems width v faces (base + at) (simplicesIn width keys count) (itemsOf width (drop at p))
+  pub proper : Proper width (simplicesIn width keys count)
+  pub indexed : Indexed (simplicesIn width keys count) keys first next count
   pub blank : Blank keys₀ first₀ next₀
   pub keys-kept : length keys ≡ length keys₀
   pub first-kept : length first ≡ length first₀
   pub next-kept : length next ≡ length next₀
 
 module _ {p : List ℕ} {base v width : ℕ} {faceKeys : List ℕ} {m : ℕ} where
-  pub taking-start : (list : SimplexList) {keys first next : List ℕ} → length (list .items) ≡ 512
-      → (simplicesOf list ≡ []) × (list .count ≡ 0) → Blank keys first next
-      → Taking p base v width faceKeys m list 0 keys first next keys first next
-  taking-start list {keys} {first} {next} full none blank =
+  pub taking-start : {keys first next : List ℕ} → Blank keys first next
+      → Taking p base v width faceKeys m 0 0 keys first next keys first next
+  taking-start {keys} {first} {next} blank =
       record {
-        full = full;
-        taken = rw (none .1, mul-zero);
+        taken = mul-zero width;
         within = omega arith;
-        rest = λ faces under. rw (add-zero, none .0);
-        proper = subst (Proper width) (sym (none .0)) (proper-none width);
-        indexed = subst₂ (λ (l : List format.Simplex) (n : ℕ). Indexed l keys first next n) (sym (none .0)) (sym (none .1))
-            (indexed-none (blank .none));
+        rest = λ faces under. rw (add-zero, none-in width keys);
+        proper = subst (Proper width) (sym (none-in width keys)) (proper-none width);
+        indexed = subst (λ (l : List format.Simplex). Indexed l keys first next 0) (sym (none-in width keys)) (indexed-none (blank .none));
         blank = blank;
         keys-kept = refl;
         first-kept = refl;
         next-kept = refl;
       }
 
-  module _ {list : SimplexList} {at : ℕ} {keys₀ first₀ next₀ keys first next : List ℕ}
-      (t : Taking p base v width faceKeys m list at keys₀ first₀ next₀ keys first next)
+  module _ {count at : ℕ} {keys₀ first₀ next₀ keys first next : List ℕ}
+      (t : Taking p base v width faceKeys m count at keys₀ first₀ next₀ keys first next)
       (shape : Shaped p base width) where
+    -- no more bytes stand in the payload than a full list has
+    few : count ≤ 512
+    few = le-of-mul-le-mul-left {k = width} (omega (arith, t .taken, t .within, shape)) (omega (arith, shape))
+
     pub taking-end : length p - at < width
-        → ItemsTold p base v width faceKeys m keys first next (record { verdict = Fine; list = list })
+        → ItemsTold p base v width faceKeys m keys first next (record { verdict = Fine; count = count })
     unfolding readItems
     taking-end short = record {
       reads = λ faces under. sym (t .rest faces under ∙ rw (items-none width (drop at p) (rw (length-drop at p) short)));
       indexed = t .indexed;
+      few = few;
     }
 
     module _ (enough : width ≤ length p - at) where
-      -- there is room in the list, since no more bytes stand in the payload than a full list has
-      pub room : list .count < 512
+      -- there is room for one item more
+      pub room : count < 512
       room = lt-of-mul-lt-mul-left width (omega (arith, t .taken, t .within, shape))
 
-      -- and in its index
-      pub keys-room : list .count < length keys
+      pub keys-room : count < length keys
       keys-room = omega (arith, room, t .blank .keys-room, t .keys-kept)
 
-      pub next-room : list .count < length next
+      pub next-room : count < length next
       next-room = omega (arith, room, t .blank .next-room, t .next-kept)
 
       module _ (s : Simplex) (spelt : verticesOf s ≡ take width (drop at p)) where
@@ -120,42 +119,41 @@ module _ {p : List ℕ} {base v width : ℕ} {faceKeys : List ℕ} {m : ℕ} whe
         item-wide : length (verticesOf s) ≡ width
         item-wide = ap length spelt ∙ length-part p at width (omega (arith, t .within))
 
-        module _ {number : ℕ} (judged : Judged keys (list .count) faceKeys m (verticesOf s) v width number) where
+        module _ {number : ℕ} (judged : Judged keys count faceKeys m (verticesOf s) v width number) where
           number-is : (faces : List format.Simplex) → FacesIn width faces faceKeys m
-              → number ≡ refusalOf width v faces (simplicesOf list) (verticesOf s)
-          number-is faces under = judged .is (simplicesOf list) faces (t .proper) (t .indexed .keyed) under item-wide
+              → number ≡ refusalOf width v faces (simplicesIn width keys count) (verticesOf s)
+          number-is faces under = judged .is (simplicesIn width keys count) faces (t .proper) (t .indexed .keyed) under item-wide
 
           pub taking-refused : (number ≡ 0 → ⊥)
-              → ItemsTold p base v width faceKeys m keys first next (record { verdict = Refused number (base + at); list = list })
+              → ItemsTold p base v width faceKeys m keys first next (record { verdict = Refused number (base + at); count = count })
           taking-refused h = record {
             reads = λ faces under.
                 sym (t .rest faces under ∙ rw (next-item, number-is faces under)
-                (item-refused width v faces (base + at) (simplicesOf list) (verticesOf s) _ (λ z. h (number-is faces under ∙ z))));
+                (item-refused width v faces (base + at) (simplicesIn width keys count) (verticesOf s) _ (λ z. h (number-is faces under ∙ z))));
             indexed = t .indexed;
+            few = few;
           }
 
-          pub taking-on : {keys′ first′ next′ : List ℕ} → number ≡ 0 → Entered (verticesOf s) keys keys′ first′ next′ (list .count)
+          pub taking-on : {keys′ first′ next′ : List ℕ} → number ≡ 0 → Entered (verticesOf s) keys keys′ first′ next′ count
               → length keys′ ≡ length keys → length first′ ≡ length first → length next′ ≡ length next
-              → Taking p base v width faceKeys m (record { items = set (list .items) (list .count) s; count = list .count + 1 })
-              (at + width) keys₀ first₀ next₀ keys′ first′ next′
+              → Taking p base v width faceKeys m (count + 1) (at + width) keys₀ first₀ next₀ keys′ first′ next′
           taking-on {keys′} {first′} {next′} passed entered keys-long first-long next-long =
               record {
-                full = length-set (list .items) (list .count) s ∙ t .full;
                 taken = rw (mul-add, mul-one, t .taken);
                 within = omega (arith, t .within, shape);
                 rest = λ faces under.
-                    t .rest faces under ∙ ap (readItems width v faces (base + at) (simplicesOf list)) next-item ∙
-                    item-passed width v faces (base + at) (simplicesOf list) (verticesOf s) _ (sym (number-is faces under) ∙ passed) ∙
-                    rw (appended list s (omega (arith, t .full, room)), add-assoc);
-                proper = subst (Proper width) (sym grown) (proper-more (simplicesOf list) (verticesOf s) (t .proper) item-wide
-                    (judged .new passed (simplicesOf list) (t .proper) (t .indexed .keyed) item-wide));
-                indexed = subst₂ (λ (l : List format.Simplex) (n : ℕ). Indexed l keys′ first′ next′ n) (sym grown) (sym (add-one (list .count)))
-                    (indexed-more (simplicesOf list) (verticesOf s) (t .indexed) keys-room entered);
+                    t .rest faces under ∙ ap (readItems width v faces (base + at) (simplicesIn width keys count)) next-item ∙
+                    item-passed width v faces (base + at) (simplicesIn width keys count) (verticesOf s) _ (sym (number-is faces under) ∙ passed) ∙
+                    rw (grown, add-assoc);
+                proper = subst (Proper width) (sym grown) (proper-more (simplicesIn width keys count) (verticesOf s) (t .proper) item-wide
+                    (judged .new passed (simplicesIn width keys count) (t .proper) (t .indexed .keyed) item-wide));
+                indexed = subst₂ (λ (l : List format.Simplex) (n : ℕ). Indexed l keys′ first′ next′ n) (sym grown) (sym (add-one count))
+                    (indexed-more (simplicesIn width keys count) (verticesOf s) (t .indexed) keys-room entered);
                 blank = t .blank;
                 keys-kept = keys-long ∙ t .keys-kept;
                 first-kept = first-long ∙ t .first-kept;
                 next-kept = next-long ∙ t .next-kept;
               }
             where
-              grown : simplicesOf (record { items = set (list .items) (list .count) s; count = list .count + 1 }) ≡ simplicesOf list ++ (verticesOf s ∷ [])
-              grown = appended list s (omega (arith, t .full, room))
+              grown : simplicesIn width keys′ (count + 1) ≡ simplicesIn width keys count ++ (verticesOf s ∷ [])
+              grown = ap (simplicesIn width keys′) (add-one count) ∙ more-in width keys keys-room item-wide entered

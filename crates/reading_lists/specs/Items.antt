@@ -7,9 +7,9 @@ use lib.ListN.{length}
 use Rattle.format.specs.Numbers.{vertex, twice, face}
 use Rattle.format.specs.Simplex.{Simplex, soundSimplex, listed, allListed}
 use Rattle.format.specs.Reading.{Reading, owedFacets, itemsOf, readItems}
-use Rattle.lists.specs.Meaning.{simplicesOf}
 use Rattle.lists.specs.Verdicts.{readingOf}
 use Rattle.lookup.specs.Indexed.{Proper, Keyed, Indexed}
+use Rattle.lookup.specs.Numbered.{simplicesIn}
 use Rattle.reading_lists.specs.declared.ItemsRead.{ItemsRead}
 
 -- the first of 6, 7, 8 that an item meets, behind the items `before`; 0 where it meets none
@@ -31,9 +31,9 @@ pub record Judged (keys : List ℕ) (n : ℕ) (faceKeys : List ℕ) (m : ℕ) (s
   pub new : number ≡ 0 → (before : List Simplex) → Proper width before → Keyed before keys n → length s ≡ width
       → listed s before ≡ false
 
--- the simplices that were read, or the refusal
-abbrev pub itemsRead : ItemsRead → Reading (List Simplex)
-itemsRead r = readingOf (r .verdict) (simplicesOf (r .list))
+-- the simplices that were read, whose numbers are the first keys, or the refusal
+abbrev pub itemsRead : (width : ℕ) → List ℕ → ItemsRead → Reading (List Simplex)
+itemsRead width keys r = readingOf (r .verdict) (simplicesIn width keys (r .count))
 
 -- What a record of the right shape has: a list's width, no more items than a list holds, and places that are numbers of
 -- the machine.
@@ -46,5 +46,6 @@ pub record Shaped (p : List ℕ) (base width : ℕ) : Type 0 where
 -- What reading a list leaves: the definition's reading, over whatever list the faces' keys are of, and an index of the items
 -- read.
 pub record ItemsTold (p : List ℕ) (base v width : ℕ) (faceKeys : List ℕ) (m : ℕ) (keys first next : List ℕ) (r : ItemsRead) : Type 0 where
-  pub reads : (faces : List Simplex) → FacesIn width faces faceKeys m → itemsRead r ≡ readItems width v faces base [] (itemsOf width p)
-  pub indexed : Indexed (simplicesOf (r .list)) keys first next (r .list .count)
+  pub reads : (faces : List Simplex) → FacesIn width faces faceKeys m → itemsRead width keys r ≡ readItems width v faces base [] (itemsOf width p)
+  pub indexed : Indexed (simplicesIn width keys (r .count)) keys first next (r .count)
+  pub few : r .count ≤ 512

@@ -15,13 +15,12 @@ ghost use Rattle.lookup.specs.Indexed.{Keyed, Proper, Blank};
 ghost use Rattle.reading_lists.specs.Items.{Judged, ItemsTold, Shaped};
 use lists::Found;
 use lists::Simplex;
-use lists::SimplexList;
 use lists::Verdict;
 
-// What reading a list comes to. Where it was refused, the list holds the items before.
+// What reading a list comes to: how many items are entered. Where it was refused, the items before are.
 pub struct ItemsRead {
     pub verdict: Verdict,
-    pub list: SimplexList,
+    pub count: usize,
 }
 
 // Whether the vertices rise strictly and are all below v.
@@ -115,8 +114,8 @@ fn judge(
     first_refusal(unsound, repeated, lacking)
 }
 
-// The items of the payload `p`, which starts at `base` of the file, over the m faces entered: the list, or the first refusal
-// with its place. The items read are entered.
+// The items of the payload `p`, which starts at `base` of the file, over the m faces entered: their number, or the first
+// refusal with its place. The items read are entered, so their numbers stand in the keys.
 pub fn read_items(
     p: &[u8],
     base: usize,
@@ -135,16 +134,15 @@ pub fn read_items(
     requires { ⌜ Blank (now keys) (now first) (now next) ⌝ }
     ensures { λ r. ⌜ ItemsTold (now (p .entry)) base v width (now («face_keys» .entry)) m (now (keys .exit)) (now (first .exit)) (now (next .exit)) r ⌝ }
 {
-    let mut list = SimplexList::empty();
+    let mut count = 0;
     let mut at = 0;
     while width <= p.len() - at {
         let s = lists::simplex_at(p, at, width);
-        let n = list.count;
         let number = judge(
             keys,
             first,
             next,
-            n,
+            count,
             face_keys,
             face_first,
             face_next,
@@ -156,16 +154,15 @@ pub fn read_items(
         if number != 0 {
             return ItemsRead {
                 verdict: Verdict::Refused(number, base + at),
-                list,
+                count,
             };
         }
-        lookup::enter(keys, first, next, n, s);
-        list.items[n] = s;
-        list.count = n + 1;
+        lookup::enter(keys, first, next, count, s);
+        count += 1;
         at += width;
     }
     ItemsRead {
         verdict: Verdict::Fine,
-        list,
+        count,
     }
 }

@@ -4,71 +4,35 @@
 use Prim.Native.Nat.{ℕ, zero, suc, _+_, _-_, _*_, _≤_, _<_}
 use native.Mathlib.Nat.{not-suc-le-zero}
 use native.Mathlib.Omega.{arith}
-use mathlib.Core.Path.{_≡_, refl, sym, ap, _∙_, subst}
+use mathlib.Core.Path.{_≡_, refl, sym, ap, _∙_}
 use mathlib.Core.Bool.{Bool}
-use mathlib.Core.List.{List, [], _∷_}
+use mathlib.Core.List.{List, []}
 use lib.ListN.{length, getD}
 use Rattle.chains.specs.Chain.{Chain, differ, _⊕_, empty, Under}
 use Rattle.chains.specs.Sum.{sum-assoc, sum-empty}
 use Rattle.chains.specs.Boundary.{under-unit}
-use Rattle.format.specs.Simplex.{Simplex, Rank, ranked, unlisted, rankFrom, rank, same, facets, atRank, sumOver, simplexBoundary}
+use Rattle.format.specs.Simplex.{Simplex, Rank, ranked, unlisted, rank, atRank, sumOver, simplexBoundary}
 use Rattle.format.specs.Reading.{without}
-use Rattle.format.specs.Moves.{length-without}
 use Rattle.format.specs.Listed.{rank-stands}
 use Rattle.format.specs.Facets.{falling, facetsBelow, facets-below}
 use Rattle.columns.specs.Column.{flipped}
 use Rattle.columns.specs.ColumnLaws.{length-flipped}
 use Rattle.columns.specs.Slot.{chainR, chainV}
 use Rattle.columns.specs.PairLaws.{flipped-R, flipped-R-keeps}
-use Rattle.lookup.specs.Indexed.{Proper, Keyed, Indexed}
-use Rattle.solver.specs.Columns.{Over, RowsFor, AddsBoundary}
+use Rattle.solver.specs.Columns.{MatrixIn, ColumnIn, AddsBoundary}
 
--- A VERTEX has one facet, the empty simplex, and no list of simplices with vertices holds it.
-unlisted-empty : (k : ℕ) (rows : List Simplex) → ((i : ℕ) → i < length rows → 0 < length (getD rows i []))
-    → rankFrom k [] rows ≡ unlisted
-unfolding rankFrom same
-unlisted-empty k [] some = refl
-unlisted-empty k ([] ∷ rows) some = absurd (not-suc-le-zero (some 0 (omega arith)))
-unlisted-empty k ((a ∷ s) ∷ rows) some = unlisted-empty (suc k) rows (λ i lt. some (suc i) (omega arith))
-
--- "The boundary of a simplex is the sum of its facets, that of a vertex is empty."
-no-boundary : (rows : List Simplex) (s : Simplex) → length s < 2 → rank [] rows ≡ unlisted → simplexBoundary rows s ≡ empty
-unfolding facets sumOver atRank
-no-boundary rows [] lt out = refl
-no-boundary rows (a ∷ []) lt out = sum-empty (atRank (rank [] rows)) ∙ ap atRank out
-no-boundary rows (a ∷ b ∷ s) lt out = absurd (omega arith)
-
--- so nothing is added
-pub adding-no-facets : {rows high : List Simplex} {s : Simplex} (cur : List ℕ) → Over rows high → length s < 2
-    → AddsBoundary rows s cur cur 0
-adding-no-facets {rows} {s = s} cur over lt =
-    let none : simplexBoundary rows s ≡ empty =
-    no-boundary rows s lt (unlisted-empty 0 rows (λ i below. omega (arith, over .some, over .proper .wide i below))) in
-    record {
-      adds = λ h long fits. sym (sum-empty (chainR h cur)) ∙ ap (λ c. chainR h cur ⊕ c) (sym none);
-      keeps = λ h long fits. refl;
-      within = omega arith;
-      under = λ i ge. ap (λ (c : Chain). c i) none;
-    }
-
--- THE ROWS of a matrix: the keys are their index, the columns stand over them, and their ranks are bits of the first half.
-pub record RowsUnder (h : ℕ) (rows cols : List Simplex) (keys first next : List ℕ) (m : ℕ) : Type 0 where
-  pub indexed : Indexed rows keys first next m
-  pub over : Over rows cols
-  pub small : length rows ≤ 8 * h
-
--- each column's facets are looked up in them
-unfoldable pub rows-for : {rows cols : List Simplex} {keys first next : List ℕ} {m i : ℕ} {s : Simplex}
-    → Indexed rows keys first next m → Over rows cols → i < length cols → getD cols i [] ≡ s → RowsFor s keys first next m
-rows-for {rows} {cols} {i = i} {s = s} indexed over lt here = record {
-  rows = rows;
-  indexed = indexed;
-  over = record { width = over .width; some = over .some; proper = over .proper; wider = wider };
+-- EACH COLUMN of a matrix has its facets among the rows.
+unfoldable pub column-in : {h size : ℕ} {keys first next cols : List ℕ} {m n i : ℕ} (k : MatrixIn h size keys first next m cols n)
+    → i < n → ColumnIn (getD cols i 0) size keys first next m
+column-in {i = i} k lt = record {
+  rows = k .rows;
+  simplex = getD (k .high) i [];
+  own = k .keyed .own i lt;
+  sized = k .wide .wide i (omega (arith, k .keyed .count));
+  least = k .least;
+  most = k .most;
+  below = k .below;
 }
-  where
-    wider : (j : ℕ) → j < 1 → 1 < length (getD (s ∷ []) j []) → length (getD (s ∷ []) j []) ≡ suc (over .width)
-    wider zero below = subst (λ (t : Simplex). 1 < length t → length t ≡ suc (over .width)) here (over .wider i lt)
-    wider (suc j) below = absurd (omega arith)
 
 -- THE FACETS that are left, their sum.
 abbrev leftOver : List Simplex → Simplex → ℕ → Chain
@@ -143,17 +107,8 @@ module _ {rows : List Simplex} {s : Simplex} {start cur : List ℕ} {left top : 
           ∙ ap (λ (b : Bool). differ b (leftOver rows s (left - 1) i)) (none i ge);
     }
 
-    -- f is the facet at hand, and its look-up answered r
-    module _ {keys : List ℕ} {n : ℕ} (keyed : Keyed rows keys n) (over : Over rows (s ∷ [])) (wide : 1 < length s)
-        {f : Simplex} (facet : f ≡ without (left - 1) s) {r : Rank}
-        (looked : (l : List Simplex) → Proper (length f) l → Keyed l keys n → r ≡ rank f l) where
-      facet-rank : r ≡ rank (without (left - 1) s) rows
-      facet-rank =
-          let size : length s ≡ suc (over .width) = over .wider 0 (omega arith) wide in
-          let short : length f ≡ over .width =
-          ap length facet ∙ omega (arith, size, length-without (left - 1) s (omega (arith, a .few))) in
-          looked rows (subst (λ (w : ℕ). Proper w rows) (sym short) (over .proper)) keyed ∙ ap (λ (g : Simplex). rank g rows) facet
-
+    -- the look-up of the facet at hand answered r
+    module _ {r : Rank} (facet-rank : r ≡ rank (without (left - 1) s) rows) where
       pub adding-none : {after : List ℕ} → r ≡ unlisted → after ≡ cur → Adding rows s start after (left - 1) top
       unfolding atRank
       adding-none {after} out put =

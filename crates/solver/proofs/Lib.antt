@@ -1,6 +1,6 @@
 -- Lemmas of the proofs of this crate, one file for each loop.
+pub mod Ranking
 pub mod Adding
-pub mod Numbering
 pub mod Loading
 pub mod Marking
 pub mod Rimming

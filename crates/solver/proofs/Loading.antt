@@ -8,7 +8,7 @@ use mathlib.Core.Path.{_≡_, sym, ap, _∙_, subst}
 use mathlib.Core.List.{List, []}
 use lib.ListN.{length, getD, replicate, length-replicate}
 use Rattle.chains.specs.Chain.{_⊕_, unit, Under}
-use Rattle.format.specs.Simplex.{Simplex, simplexBoundary, columns}
+use Rattle.format.specs.Simplex.{Simplex, columns}
 use Rattle.format.specs.Matrix.{columns-under}
 use Rattle.columns.specs.Column.{flipped}
 use Rattle.columns.specs.ColumnLaws.{length-flipped}
@@ -36,8 +36,8 @@ module _ {h : ℕ} {rows cols : List Simplex} where
 
   module _ {i : ℕ} {work₀ work cur : List ℕ} (a : Loading h rows cols i work₀ work cur) where
     -- the pair in hand, from zeros
-    module _ (small : length rows ≤ 8 * h) (below : i < 8 * h) {zeros built made : List ℕ} {s : Simplex} {top : ℕ}
-        (here : getD cols i [] ≡ s) (cleared : zeros ≡ replicate (length cur) 0) (added : AddsBoundary rows s zeros built top)
+    module _ (small : length rows ≤ 8 * h) (below : i < 8 * h) {zeros built made : List ℕ} {top : ℕ}
+        (cleared : zeros ≡ replicate (length cur) 0) (added : AddsBoundary rows (getD cols i []) zeros built top)
         (long : length built ≡ length zeros) (put : made ≡ flipped built (8 * h + i)) where
       zeros-whole : length zeros ≡ 2 * h
       zeros-whole = ap length cleared ∙ length-replicate (length cur) 0 ∙ a .whole
@@ -48,12 +48,12 @@ module _ {h : ℕ} {rows cols : List Simplex} where
       made-whole : length made ≡ 2 * h
       made-whole = ap length put ∙ length-flipped built (8 * h + i) ∙ built-whole
 
-      made-rows : chainR h made ≡ simplexBoundary rows s
+      made-rows : chainR h made ≡ columns rows cols i
       made-rows =
           ap (chainR h) put
           ∙ flipped-V-keeps h built built-whole i below
           ∙ added .adds h zeros-whole small
-          ∙ ap (λ c. c ⊕ simplexBoundary rows s) (ap (chainR h) cleared ∙ halfR-zeros h (length cur))
+          ∙ ap (λ c. c ⊕ columns rows cols i) (ap (chainR h) cleared ∙ halfR-zeros h (length cur))
 
       made-column : chainV h made ≡ unit i
       made-column =
@@ -71,7 +71,7 @@ module _ {h : ℕ} {rows cols : List Simplex} where
           record {
             slots =
                 put-in .next (columns rows cols) (length cols) i lt (columns-under rows cols i) (a .slots)
-                (made-rows ∙ ap (simplexBoundary rows) (sym here)) made-column;
+                made-rows made-column;
             within = lt;
             long = kept ∙ a .long;
             whole = same ∙ made-whole;

@@ -11,7 +11,7 @@ use lib.ListN.{length, getD, replicate}
 use Rattle.chains.specs.Chain.{_⊕_, empty, only, boundary}
 use Rattle.chains.specs.Sum.{sum-empty}
 use Rattle.chains.specs.Boundary.{boundary-under}
-use Rattle.format.specs.Simplex.{Simplex, simplexBoundary, columns}
+use Rattle.format.specs.Simplex.{Simplex, columns}
 use Rattle.format.specs.Matrix.{columns-under}
 use Rattle.columns.specs.Column.{bitAt, chainOf}
 use Rattle.columns.specs.Slot.{chainR}
@@ -58,12 +58,11 @@ module _ (lower rows : List Simplex) (marks : Marks) (h : ℕ) where
         → Rimming lower rows marks h (i + 1) after
     rimming-skip lt out same = row-on false lt out (ap length same) (ap (chainR h) same ∙ sym (sum-empty (chainR h cur)))
 
-    pub rimming-add : {sum after : List ℕ} {s : Simplex} {top : ℕ} → i < length rows → getD (marks .on) i false ≡ true
-        → getD rows i [] ≡ s → length lower ≤ 8 * h → AddsBoundary lower s cur sum top → length sum ≡ length cur → after ≡ sum
+    pub rimming-add : {sum after : List ℕ} {top : ℕ} → i < length rows → getD (marks .on) i false ≡ true
+        → length lower ≤ 8 * h → AddsBoundary lower (getD rows i []) cur sum top → length sum ≡ length cur → after ≡ sum
         → Rimming lower rows marks h (i + 1) after
-    rimming-add {sum} {after} {s} lt on here small added long put =
-        row-on true lt on (ap length put ∙ long)
-        (ap (chainR h) put ∙ added .adds h (a .whole) small ∙ ap (λ t. chainR h cur ⊕ simplexBoundary lower t) (sym here))
+    rimming-add lt on small added long put =
+        row-on true lt on (ap length put ∙ long) (ap (chainR h) put ∙ added .adds h (a .whole) small)
 
     -- all rows were gone through, and the highest rank was asked for
     module _ (end : length rows ≤ i) (small : length lower ≤ 8 * h) {k : ℕ} (size : k ≡ length lower)

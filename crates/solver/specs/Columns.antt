@@ -1,30 +1,47 @@
--- Building columns in the pair of columns in hand, and the matrix of two lists in the slots. The pair has 2·h bytes, for
+-- Matrices as numbers in memory, building their columns in the pair of columns in hand, and putting them into the slots. The pair has 2·h bytes, for
 -- whatever half size h that holds all ranks.
-use Prim.Native.Nat.{ℕ, suc, _*_, _≤_, _<_}
+use Prim.Native.Nat.{ℕ, _-_, _*_, _≤_, _<_}
 use mathlib.Core.Path.{_≡_}
 use mathlib.Core.Bool.{false}
-use mathlib.Core.List.{List, [], _∷_}
+use mathlib.Core.List.{List}
 use lib.ListN.{length, getD, take}
 use Rattle.chains.specs.Chain.{Chain, _⊕_, empty, Under}
-use Rattle.format.specs.Simplex.{Simplex, simplexBoundary, columns}
-use Rattle.lookup.specs.Indexed.{Proper, Indexed}
+use Rattle.format.specs.Simplex.{Simplex, vertexList, simplexBoundary, columns}
+use Rattle.lookup.specs.Indexed.{Proper, NumberOf, Keyed, Indexed}
 use Rattle.columns.specs.Slot.{chainR, chainV}
 use Rattle.slots.specs.Slots.{SlotsIn}
 use Rattle.lists.specs.declared.Marks.{Marks}
 
--- `high` stands over `low`: the simplices of `low` have as many vertices each, at least one, and none stands twice; those of
--- `high` have one vertex more, but for vertices, whose boundary is empty
-pub record Over (low high : List Simplex) : Type 0 where
-  pub width : ℕ
-  pub some : 0 < width
-  pub proper : Proper width low
-  pub wider : (i : ℕ) → i < length high → 1 < length (getD high i []) → length (getD high i []) ≡ suc width
+-- the rows of a matrix in memory: vertices rank by number, and all other simplices are indexed by their numbers
+pub record RowsIn (width : ℕ) (rows : List Simplex) (keys first next : List ℕ) (m : ℕ) : Type 0 where
+  pub proper : Proper width rows
+  pub count : m ≡ length rows
+  pub vertices : width ≡ 1 → rows ≡ vertexList m
+  pub indexed : 1 < width → Indexed rows keys first next m
 
--- the list in which the facets of s are looked up: s stands over it, and the keys are its index
-pub record RowsFor (s : Simplex) (keys first next : List ℕ) (n : ℕ) : Type 0 where
+-- a matrix in memory: the columns' simplices, of `size` vertices, are given by their numbers, and the rows are the simplices
+-- of one vertex less
+pub record MatrixIn (h size : ℕ) (keys first next : List ℕ) (m : ℕ) (cols : List ℕ) (n : ℕ) : Type 0 where
   pub rows : List Simplex
-  pub indexed : Indexed rows keys first next n
-  pub over : Over rows (s ∷ [])
+  pub high : List Simplex
+  pub below : RowsIn (size - 1) rows keys first next m
+  pub wide : Proper size high
+  pub keyed : Keyed high cols n
+  pub least : 2 ≤ size
+  pub most : size ≤ 4
+  pub few-rows : length rows ≤ 8 * h
+  pub few-columns : length high ≤ 8 * h
+  pub room : n ≤ length cols
+
+-- one column: the simplex that has a number, and the rows in which its facets are looked up
+pub record ColumnIn (number size : ℕ) (keys first next : List ℕ) (m : ℕ) : Type 0 where
+  pub rows : List Simplex
+  pub simplex : Simplex
+  pub own : NumberOf simplex number
+  pub sized : length simplex ≡ size
+  pub least : 2 ≤ size
+  pub most : size ≤ 4
+  pub below : RowsIn (size - 1) rows keys first next m
 
 -- the boundary of s was added to the first half of the pair in hand, and it holds no row from `top` on
 pub record AddsBoundary (rows : List Simplex) (s : Simplex) (cur left : List ℕ) (top : ℕ) : Type 0 where

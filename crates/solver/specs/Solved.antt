@@ -1,17 +1,20 @@
 -- The answers to the two questions: `rows` is the list that the asked chain A is made of, `cols` the list one dimension
 -- higher, `lower` the one below.
 use Prim.Native.Nat.{ℕ}
-use mathlib.Core.Path.{_≡_, subst}
-use mathlib.Core.Bool.{Bool, true, false}
-use mathlib.Core.List.{List}
+use native.Mathlib.Omega.{arith}
+use mathlib.Core.Path.{_≡_, subst, fun-ext}
+use mathlib.Core.Bool.{Bool, true, false, true≢false}
+use mathlib.Core.List.{List, []}
 use lib.ListN.{length}
-use Rattle.chains.specs.Chain.{Chain, empty, boundary, Fills, SmallestFilling, SmallestInClass}
+use Rattle.chains.specs.Chain.{Chain, empty, boundary, SmallestInClass}
+use Rattle.chains.specs.Boundary.{boundary-under}
 use Rattle.format.specs.Simplex.{Simplex, columns}
+use Rattle.format.specs.Matrix.{columns-under}
 use Rattle.columns.specs.Slot.{chainR, chainV}
+use Rattle.slots.specs.Slots.{Answers}
+use Rattle.slots.specs.declared.Filled.{Filled}
 use Rattle.lists.specs.declared.Marks.{Marks}
 use Rattle.solver.specs.Columns.{markedChain, Loads}
-use Rattle.solver.specs.declared.Solved.{Solved}
-use Rattle.solver.specs.declared.Solved.the-variants as solved
 
 -- the marked chain of a list
 abbrev pub asked : List Simplex → Marks → Chain
@@ -26,29 +29,33 @@ pub record RimTold (lower rows : List Simplex) (marks : Marks) (answer : Bool) :
   pub is-closed : answer ≡ true → rimOf lower rows marks ≡ empty
   pub is-open : answer ≡ false → rimOf lower rows marks ≡ empty → ⊥
 
+-- over the empty list every rim is empty: no facet is listed there
+pub no-rim : (rows : List Simplex) (marks : Marks) → RimTold [] rows marks true
+no-rim rows marks = record {
+  is-closed = λ e. fun-ext λ j.
+      boundary-under (columns [] rows) (length rows) 0 (asked rows marks) (λ c lt. columns-under [] rows c) j (omega arith);
+  is-open = λ e. absurd (true≢false e);
+}
+
 -- the slots hold the matrix of the two lists, and the pair in hand holds the marked chain of the m rows, and no columns
 pub record Prepared (h : ℕ) (rows cols : List Simplex) (marks : Marks) (m : ℕ) (work cur : List ℕ) : Type 0 where
   pub loads : Loads h rows cols m work
   pub chain : chainR h cur ≡ asked rows marks
   pub no-columns : chainV h cur ≡ empty
 
--- What each answer says of the chain c that comes with it: "12, fill, and the boundary of A is not empty", "13, fill, the
--- boundary of A is empty, no d-chain has boundary A", else c is "the smallest d-chain with boundary A".
-abbrev pub FillSays : List Simplex → List Simplex → List Simplex → Marks → Solved → Chain → Type 0
-FillSays lower rows cols marks solved.Patch c =
-    (rimOf lower rows marks ≡ empty) × SmallestFilling (columns rows cols) (length cols) (asked rows marks) c
-FillSays lower rows cols marks solved.OpenRim c = rimOf lower rows marks ≡ empty → ⊥
-FillSays lower rows cols marks solved.NoFilling c =
-    (rimOf lower rows marks ≡ empty) × ((other : Chain) → Fills (columns rows cols) (length cols) (asked rows marks) other → ⊥)
+-- What each answer says of the chain c that comes with it: c is "the smallest d-chain with boundary A", or "no d-chain has
+-- boundary A".
+abbrev pub FillSays : List Simplex → List Simplex → Marks → Filled → Chain → Type 0
+FillSays rows cols marks answer c = Answers (columns rows cols) (length cols) (asked rows marks) answer c
 
 -- the answer of a fill question, with the chain that it leaves
-pub record FillTold (lower rows cols : List Simplex) (marks : Marks) (answer : Solved) (c : Chain) : Type 0 where
-  pub says : FillSays lower rows cols marks answer c
+pub record FillTold (rows cols : List Simplex) (marks : Marks) (answer : Filled) (c : Chain) : Type 0 where
+  pub says : FillSays rows cols marks answer c
 
 -- the same, of the answer that a match found
-pub fill-says : {lower rows cols : List Simplex} {marks : Marks} {answer a : Solved} {c : Chain}
-    → FillTold lower rows cols marks answer c → answer ≡ a → FillSays lower rows cols marks a c
-fill-says {lower} {rows} {cols} {marks} {c = c} told e = subst (λ x. FillSays lower rows cols marks x c) e (told .says)
+pub fill-says : {rows cols : List Simplex} {marks : Marks} {answer a : Filled} {c : Chain}
+    → FillTold rows cols marks answer c → answer ≡ a → FillSays rows cols marks a c
+fill-says {rows} {cols} {marks} {c = c} told e = subst (λ x. FillSays rows cols marks x c) e (told .says)
 
 -- c is "the smallest d-chain G for which G+A is the boundary of some (d+1)-chain"
 abbrev pub ClassTold : List Simplex → List Simplex → Marks → Chain → Type 0

@@ -14,10 +14,11 @@ use Rattle.format.specs.Opened.{openedFrom, opened, record-opened, opened-insid
 use Rattle.lists.specs.declared.Verdict.{Verdict}
 use Rattle.lists.specs.declared.Verdict.the-variants.{Fine, Refused}
 use Rattle.lists.specs.Verdicts.{readingOf, reading-then}
-use Rattle.lists.specs.Meaning.{simplicesOf}
 use Rattle.lookup.specs.Indexed.{Blank, Indexed}
 use Rattle.lookup.specs.IndexLaws.{indexed-none}
-use Rattle.stages.specs.Meaning.{listRead, ListTold}
+use Rattle.lookup.specs.Numbered.{simplicesIn}
+use Rattle.lookup.specs.NumberedLaws.{none-in}
+use Rattle.stages.specs.Meaning.{ListTold}
 use Rattle.stages.specs.declared.ListRead.{ListRead}
 
 module _ (may : ℕ → Bool) (b : List ℕ) (at : ℕ) where
@@ -62,15 +63,16 @@ module _ (b : List ℕ) (at kind v : ℕ) (faces : List Simplex) where
         rw (record-opened (λ _ p. listFits small kind p) b at kind, whole, long, eq-eqb (size % kind) 0 e, le-leb size (kind * 512) h, r)
         (reading-then verdict list (λ l. record { list = l; next = at + headerBytes + size }))
 
-pub refused-list : (r : ListRead) (n at : ℕ) → r .verdict ≡ Refused n at → listRead r ≡ refused n at
-refused-list r n at e = ap (λ v. readingOf v (record { list = simplicesOf (r .list); next = r .next })) e
-
 -- a record that is refused as a whole leaves the lent arrays as they were
 pub told-refused : {b : List ℕ} {at kind v : ℕ} {faceKeys : List ℕ} {m : ℕ} {keys first next : List ℕ} {n : ℕ} (r : ListRead)
-    → (r .verdict ≡ Refused n at) × (simplicesOf (r .list) ≡ []) × (r .list .count ≡ 0) → Blank keys first next
+    → (r .verdict ≡ Refused n at) × (r .count ≡ 0) → Blank keys first next
     → ((faces : List Simplex) → readList small b at kind v faces ≡ refused n at)
     → ListTold b at kind v faceKeys m keys first next r
-told-refused {at = at} {keys = keys} {first = first} {next = next} {n = n} r e blank is = record {
-  reads = λ faces under. refused-list r n at (e .0) ∙ sym (is faces);
-  indexed = subst₂ (λ (l : List Simplex) (k : ℕ). Indexed l keys first next k) (sym (e .1)) (sym (e .2)) (indexed-none (blank .none));
+told-refused {kind = kind} {keys = keys} {first = first} {next = next} r e blank is = record {
+  reads = λ faces under. ap (λ v. readingOf v (record { list = simplicesIn kind keys (r .count); next = r .next })) (e .0) ∙ sym (is faces);
+  indexed = subst₂ (λ (l : List Simplex) (k : ℕ). Indexed l keys first next k) (sym none) (sym (e .1)) (indexed-none (blank .none));
+  few = omega (arith, e .1);
 }
+  where
+    none : simplicesIn kind keys (r .count) ≡ []
+    none = ap (simplicesIn kind keys) (e .1) ∙ none-in kind keys

@@ -3,11 +3,9 @@ use lists::SimplexList;
 use lists::Verdict;
 use records::Header;
 ghost use mathlib.Core.Path.{_≡_};
-ghost use mathlib.Core.List.{[]};
 ghost use Prim.Native.Nat.{_≤_};
 ghost use lib.Dec.{eqb};
 ghost use Rattle.format.specs.Opened.{opened};
-ghost use Rattle.lists.specs.Meaning.{simplicesOf};
 ghost use Rattle.keys.specs.Chained.{Chained};
 ghost use Rattle.lookup.specs.Indexed.{Blank};
 ghost use Rattle.stages.specs.Meaning.{openedOf, ListTold};
@@ -36,26 +34,27 @@ pub fn open(job: &[u8], at: usize, kind: u16) -> Opened
     }
 }
 
-// A list as it was read, and the offset of the record behind its own.
+// What reading a list record comes to: how many simplices are entered, and the offset of the record behind its own.
 pub struct ListRead {
     pub verdict: Verdict,
-    pub list: SimplexList,
+    pub count: usize,
     pub next: usize,
 }
 
 impl ListRead {
     fn refused(number: u16, at: usize) -> Self
-        ensures { λ r. ⌜ (r .verdict ≡ Verdict.Refused number at) × (simplicesOf (r .list) ≡ []) × (r .list .count ≡ 0) ⌝ }
+        ensures { λ r. ⌜ (r .verdict ≡ Verdict.Refused number at) × (r .count ≡ 0) ⌝ }
     {
         ListRead {
             verdict: Verdict::Refused(number, at),
-            list: SimplexList::empty(),
+            count: 0,
             next: at,
         }
     }
 }
 
-// Reads the list record of one kind at a place, over the m facets entered. What it reads is entered.
+// Reads the list record of one kind at a place, over the m facets entered. What it reads is entered, so the list's numbers
+// stand in the keys.
 pub fn read_list(
     job: &[u8],
     at: usize,
@@ -101,10 +100,10 @@ pub fn read_list(
                 next,
             );
             let verdict = read.verdict;
-            let list = read.list;
+            let count = read.count;
             ListRead {
                 verdict,
-                list,
+                count,
                 next: start + size,
             }
         }

@@ -1,72 +1,122 @@
 -- `answering::answer_fill` meets its contract: what the solver told is the answer, and its record is put out.
+-- Assumes nothing.
 use Prim.Native.Nat.{_+_, _≤_}
 use native.Mathlib.Omega.{arith}
-use mathlib.Core.Path.{refl, sym, subst, subst₂}
-use lib.ListN.{length}
 use native.Mathlib.Nat.{le-trans}
+use mathlib.Core.Path.{_≡_, refl, sym, subst}
+use lib.ListN.{length}
+use borrow.Author.Tests.{not-true, not-false}
 use Rattle.chains.specs.Chain.{empty}
 use Rattle.columns.specs.Slot.{halfV}
-use Rattle.complexes.specs.Meaning.{complexOf}
-use Rattle.solver.specs.Columns.{Over}
+use Rattle.format.specs.Simplex.{Complex, simplices}
+use Rattle.format.specs.Reading.{questionOf}
+use Rattle.lookup.specs.Numbered.{simplicesIn}
+use Rattle.lent_lists.specs.Held.{complexIn}
+use Rattle.lent_lists.specs.HeldLaws.{held-counted, few-simplices}
 use Rattle.solver.specs.Room.{room-small}
 use Rattle.solver.specs.Solved.{fill-says}
-use Rattle.answering.proofs.Lists.{few-simplices, few-lower, over-list, over-lower, members-room}
-use Rattle.answering.proofs.Told.{answers-open, answers-unfilled, answers-patch}
+use Rattle.answering.proofs.Lists.{numbers-list, numbers-fit, matrix-in, members-room}
+use Rattle.answering.proofs.Told.{answers-open, answers-unfilled, answers-patch, dimension-few}
 use borrow.Author.Needs.{needs}
 use Rattle.answering.proofs.answer_fill.Statement.{statement}
 use Rattle.answering.proofs.answer_fill.Tie as tie
 
-lower-of-requires : tie.Need-lower-of-requires
-lower-of-requires c κs = search needs
+-- the complex that the arrays hold
+abbrev lists : tie.Start → Complex
+lists start =
+    complexIn (start .args .read .head .v) (start .args .read .counts) (start .args .e-keys .now) (start .args .t-keys .now) (start .args .s-keys .now)
 
-list-of-requires : tie.Need-list-of-requires
-list-of-requires c κs = search needs
+-- A has dimension 2 at most
+small-dim : (start : tie.Start) → start .args .dim ≤ 2
+small-dim start = subst (λ n. n ≤ 2) (sym (start .pre .1 .0)) (dimension-few (questionOf (start .args .read .head .question)) (start .args .read .head .d) (start .pre .0 .head .dimension))
 
-add-list-of : tie.Need-add-list-of
-add-list-of c = search needs
+-- what is known once the arrays are chosen
+module _ (c : tie.After-numbers-of2) where
+  abbrev start : tie.Start
+  start = c .before .before .before .before .before .before .before .before .before .before .before .before .before .before .before .before .before .before .before .before
 
-list-of-requires-2 : tie.Need-list-of-requires-2
-list-of-requires-2 c κs = search needs
+  m-is : c .before .before .before .before .before .of .result ≡ length (simplices (lists start) (start .args .dim))
+  m-is = c .before .before .before .before .before .of .ensures (lists start) (held-counted (start .pre .0 .held))
+
+  n-is : c .before .before .before .before .of2 .result ≡ length (simplices (lists start) (start .args .dim + 1))
+  n-is = c .before .before .before .before .of2 .ensures (lists start) (held-counted (start .pre .0 .held))
+
+  few : c .before .before .before .before .before .of .result ≤ 512
+  few = subst (λ n. n ≤ 512) (sym m-is) (few-simplices (lists start) (start .pre .0 .held .sound) _)
+
+  -- the patch is made of the columns
+  patch-list : simplicesIn (start .args .dim + 2) (c .numbers-of2 .result .now) (c .before .before .before .before .of2 .result)
+      ≡ simplices (lists start) (start .args .dim + 1)
+  patch-list =
+      let d = small-dim start in
+      numbers-list (start .pre .0 .held) (start .args .dim + 1) _ _ (c .numbers-of2 .ensures) (omega arith) (omega arith) (omega arith) n-is
+
+rim-closed-requires : tie.Need-rim-closed-requires
+rim-closed-requires c κs = let start = c .before .before .before .before .before .before .before .before .before in (start .pre .0, small-dim start)
+
+put-refusal-requires : tie.Need-put-refusal-requires
+put-refusal-requires c κs = search needs
+
+same-length : tie.Need-same-length
+same-length c = search needs
+
+returns : tie.Need-returns
+returns c = λ k.
+    let put = c .before .before in
+    let rim = put .before .before .before in
+    let start = rim .before .before .before .before .before .before .before .before .before .before in
+    answers-open k (start .pre .1 .0) (rim .rim-closed .ensures) (start .pre .1 .1 .0) (not-true _ (put .before .before .if1 .taken)) (put .put-refusal .ensures)
+
+of-requires : tie.Need-of-requires
+of-requires c κs = search needs
+
+add-of : tie.Need-add-of
+add-of c = record { fits = omega (arith, small-dim (c .before .before .before .before .before .before .before .before .before .before .before .before .before .before .before)) }
+
+of-requires-2 : tie.Need-of-requires-2
+of-requires-2 c κs = search needs
+
+numbers-of-requires : tie.Need-numbers-of-requires
+numbers-of-requires c κs = search needs
+
+links-of-requires : tie.Need-links-of-requires
+links-of-requires c κs = search needs
+
+links-of-requires-2 : tie.Need-links-of-requires-2
+links-of-requires-2 c κs = search needs
+
+add-numbers-of : tie.Need-add-numbers-of
+add-numbers-of c = record { fits = omega (arith, small-dim (c .before .before .before .before .before .before .before .before .before .before .before .before .before .before .before .before .before .before .before)) }
+
+numbers-of-requires-2 : tie.Need-numbers-of-requires-2
+numbers-of-requires-2 c κs = search needs
 
 slice-aggregate-fill : tie.Need-slice-aggregate-fill
 slice-aggregate-fill c = search needs
 
+add-fill : tie.Need-add-fill
+add-fill c = record { fits = omega (arith, small-dim (c .before .before .before .before .before .before .before .before .before .before .before .before .before .before .before .before .before .before .before .before .before .before)) }
+
 fill-requires : tie.Need-fill-requires
 fill-requires c κs =
-    let start = c .before .before .before .before .before .before .before in
-    let X = complexOf (start .args .complex) in
-    let dim = start .args .dim in
-    let sound = start .pre .0 in
-    let low = sym (c .before .before .before .before .lower-of .ensures) in
-    let row = sym (c .before .before .before .list-of .ensures) in
-    let col = sym (c .before .before .list-of2 .ensures) in (
-      subst (λ l. length l ≤ 512) low (few-lower X sound dim),
-      (
-        subst (λ l. length l ≤ 512) row (few-simplices X sound dim),
-        (
-          subst (λ l. length l ≤ 512) col (few-simplices X sound (dim + 1)),
-          (
-            subst₂ Over low row (over-lower X sound dim),
-            (subst₂ Over row col (over-list X sound dim), (omega (arith, room-small), refl)),
-          ),
-        ),
-      ),
+    let chosen = c .before .before in (
+      matrix-in (start chosen .pre .0 .held) (start chosen .args .dim) _ _ (chosen .before .before .before .numbers-of .ensures)
+          (chosen .before .before .links-of .ensures) (chosen .before .links-of2 .ensures) (chosen .numbers-of2 .ensures) (small-dim (start chosen))
+          (m-is chosen) (n-is chosen),
+      (few chosen, (omega (arith, room-small, start chosen .pre .1 .1 .1 .1), refl)),
     )
 
 enum-told : tie.Need-enum-told
 enum-told c = search needs
 
-put-refusal-requires : tie.Need-put-refusal-requires
-put-refusal-requires c κs = search needs
+put-refusal-requires-2 : tie.Need-put-refusal-requires-2
+put-refusal-requires-2 c κs = omega (arith, c .before .before .before .before .before .before .before .before .before .before .before .before .before .before .before .before .before .before .before .before .before .before .before .before .before .before .before .before .before .pre .1 .1 .1 .0)
 
 enum-told-2 : tie.Need-enum-told-2
 enum-told-2 c = search needs
 
-put-refusal-requires-2 : tie.Need-put-refusal-requires-2
-put-refusal-requires-2 c κs = search needs
-
-enum-told-3 : tie.Need-enum-told-3
-enum-told-3 c = search needs
+add-put-chain : tie.Need-add-put-chain
+add-put-chain c = record { fits = omega (arith, small-dim (c .before .before .before .before .before .before .before .before .before .before .before .before .before .before .before .before .before .before .before .before .before .before .before .before .before .before .before .before .before)) }
 
 sub-put-chain : tie.Need-sub-put-chain
 sub-put-chain c = search needs
@@ -79,65 +129,87 @@ part-put-chain-end c = search needs
 
 put-chain-requires : tie.Need-put-chain-requires
 put-chain-requires c κs =
-    let a = c .before .before .before .before .before .before .before .before .before .before .before .before .before .before .before .before .args in
-    le-trans (members-room (complexOf (a .complex)) (c .before .before .before .before .before .before .before .before .before .before .before .before .before .before .before .before .pre .0) (a .dim + 1) _ (c .before .before .before .before .before .before .before .before .before .before .before .list-of2 .ensures) _) (c .before .before .before .before .before .before .before .before .before .before .before .before .before .before .before .before .pre .1 .1 .0)
-
-same-length : tie.Need-same-length
-same-length c = search needs
+    let chosen = c .before .before .before .before .before .before .before .before .before .before .before in (
+      (omega arith, omega (arith, small-dim (start chosen))),
+      (
+        numbers-fit (start chosen .pre .0 .held) _ _ (chosen .numbers-of2 .ensures) (n-is chosen),
+        le-trans (members-room (lists (start chosen)) (start chosen .pre .0 .held .sound) (start chosen .args .dim + 1) _ (patch-list chosen) _) (start chosen .pre .1 .1 .1 .0),
+      ),
+    )
 
 same-length-2 : tie.Need-same-length-2
 same-length-2 c = search needs
 
-returns : tie.Need-returns
-returns c j q s =
-    answers-open s (c .before .before .before .before .before .before .before .before .before .before .before .before .before .before .lower-of .ensures) (c .before .before .before .before .before .before .before .before .before .before .before .before .before .list-of .ensures) (c .before .before .before .before .before .before .before .before .before .before .before .before .list-of2 .ensures) empty q (fill-says (c .before .before .before .before .before .before .before .before .before .fill .ensures) (c .before .before .before .before .enum-told .given .1)) (c .before .before .put-refusal .ensures)
-
 same-length-3 : tie.Need-same-length-3
 same-length-3 c = search needs
+
+returns-2 : tie.Need-returns-2
+unfolding matrix-in
+returns-2 c = λ k.
+    let put = c .before .before in
+    let told = put .before .before in
+    let done = told .before .before .before .before .before in
+    let chosen = done .before .before .before in
+    let rim = chosen .before .before .before .before .before .before .before .before .before .before in
+    answers-unfilled k (start chosen .pre .1 .0) (rim .rim-closed .ensures) (start chosen .pre .1 .1 .0) (not-false _ (chosen .before .before .before .before .before .before .before .before .before .if1 .left)) empty
+    (fill-says (done .fill .ensures
+    (matrix-in (start chosen .pre .0 .held) (start chosen .args .dim) _ _ (chosen .before .before .before .numbers-of .ensures)
+    (chosen .before .before .links-of .ensures) (chosen .before .links-of2 .ensures) (chosen .numbers-of2 .ensures) (small-dim (start chosen))
+    (m-is chosen) (n-is chosen))) (told .enum-told .given .1))
+    (put .put-refusal2 .ensures)
 
 same-length-4 : tie.Need-same-length-4
 same-length-4 c = search needs
 
-returns-2 : tie.Need-returns-2
-returns-2 c j q s =
-    answers-unfilled s (c .before .before .before .before .before .before .before .before .before .before .before .before .before .before .lower-of .ensures) (c .before .before .before .before .before .before .before .before .before .before .before .before .before .list-of .ensures) (c .before .before .before .before .before .before .before .before .before .before .before .before .list-of2 .ensures) empty q (fill-says (c .before .before .before .before .before .before .before .before .before .fill .ensures) (c .before .before .before .before .enum-told2 .given .1)) (c .before .before .put-refusal2 .ensures)
-
 same-length-5 : tie.Need-same-length-5
 same-length-5 c = search needs
 
-same-length-6 : tie.Need-same-length-6
-same-length-6 c = search needs
-
 returns-3 : tie.Need-returns-3
-unfolding halfV
-returns-3 c j q s =
-    answers-patch s (c .before .before .before .before .before .before .before .before .before .before .before .before .before .before .before .before .lower-of .ensures) (c .before .before .before .before .before .before .before .before .before .before .before .before .before .before .before .list-of .ensures) (c .before .before .before .before .before .before .before .before .before .before .before .before .before .before .list-of2 .ensures) _ (c .before .before .before .before .before .before .before .before .before .before .before .before .before .before .before .before .before .before .before .pre .0) q (fill-says (c .before .before .before .before .before .before .before .before .before .before .before .fill .ensures) (c .before .before .before .before .before .before .enum-told3 .given .1)) (c .before .before .put-chain .ensures)
+unfolding halfV matrix-in
+returns-3 c = λ k.
+    let put = c .before .before in
+    let told = put .before .before .before .before in
+    let done = told .before .before .before .before .before in
+    let chosen = done .before .before .before in
+    let rim = chosen .before .before .before .before .before .before .before .before .before .before in
+    answers-patch k (start chosen .pre .1 .0) (rim .rim-closed .ensures) (start chosen .pre .1 .1 .0) (not-false _ (chosen .before .before .before .before .before .before .before .before .before .if1 .left)) _
+    (patch-list chosen)
+    (fill-says (done .fill .ensures
+    (matrix-in (start chosen .pre .0 .held) (start chosen .args .dim) _ _ (chosen .before .before .before .numbers-of .ensures)
+    (chosen .before .before .links-of .ensures) (chosen .before .links-of2 .ensures) (chosen .numbers-of2 .ensures) (small-dim (start chosen))
+    (m-is chosen) (n-is chosen))) (told .enum-told2 .given .1))
+    (put .put-chain .ensures)
 
 pub answer-fill-spec : {M : Type 1} → statement M
 answer-fill-spec =
     tie.close
     (tie.spec
-    lower-of-requires
-    list-of-requires
-    add-list-of
-    list-of-requires-2
+    rim-closed-requires
+    put-refusal-requires
+    same-length
+    returns
+    of-requires
+    add-of
+    of-requires-2
+    numbers-of-requires
+    links-of-requires
+    links-of-requires-2
+    add-numbers-of
+    numbers-of-requires-2
     slice-aggregate-fill
+    add-fill
     fill-requires
     enum-told
-    put-refusal-requires
-    enum-told-2
     put-refusal-requires-2
-    enum-told-3
+    enum-told-2
+    add-put-chain
     sub-put-chain
     part-put-chain-start
     part-put-chain-end
     put-chain-requires
-    same-length
     same-length-2
-    returns
     same-length-3
-    same-length-4
     returns-2
+    same-length-4
     same-length-5
-    same-length-6
     returns-3)

@@ -63,16 +63,13 @@ add-start c = omega (arith, positions-inside c)
 payload-requires : tie.Need-payload-requires
 payload-requires c κs = search needs
 
-count-requires : tie.Need-count-requires
-count-requires c κs = search needs
-
 read-positions-requires : tie.Need-read-positions-requires
 read-positions-requires c κs =
-    let known = c .before .before in
-    (c .count .ensures .1 (omega (arith, start (known .before .before .before) .pre .0)), omega (arith, positions-inside known))
+    let known = c .before in
+    (start (known .before .before .before) .pre .1 .0 .0, omega (arith, positions-inside known))
 
 add-t26 : tie.Need-add-t26
-add-t26 c = omega (arith, positions-inside (c .before .before .before .before))
+add-t26 c = omega (arith, positions-inside (c .before .before .before))
 
 enum-known-opened-3 : tie.Need-enum-known-opened-3
 enum-known-opened-3 c = search needs
@@ -85,17 +82,18 @@ payload-requires-2 c κs = search needs
 
 read-walk-requires : tie.Need-read-walk-requires
 read-walk-requires c κs =
-    let known = c .before .before in
-    (omega (arith, walk-inside known), start (known .before .before .before) .pre .1)
+    let known = c .before in
+    let pre = start (known .before .before .before) .pre in
+    ((omega (arith, walk-inside known), pre .1 .0 .1), pre .1 .1)
 
 add-t27 : tie.Need-add-t27
-add-t27 c = omega (arith, walk-inside (c .before .before .before .before))
+add-t27 c = omega (arith, walk-inside (c .before .before .before))
 
 returns : tie.Need-returns
-returns c =
+returns c = λ X own count.
     let opened = c .before .before .before .before in
     let a = start opened .args in
-    stage-refused (a .job .now) (a .at) (a .dim) (a .complex) _ (c .none .result) _
+    stage-refused (a .job .now) (a .at) (a .dim) X _ (c .none .result) _
     (told (chainOpened (a .job .now) (a .at)) _ _ _ (opened .open-chain .ensures) (c .before .before .opened .given .1))
 
 -- the marks have a place for each rank
@@ -106,23 +104,22 @@ walk-marked : (c : tie.After-read-walk) → length (c .read-walk .result .marks 
 walk-marked c = search needs
 
 returns-2 : tie.Need-returns-2
-returns-2 c =
+returns-2 c = λ X own count.
     let read = c .before .read-positions in
-    let counted = c .before .before .count in
-    let known = c .before .before .before .before in
+    let known = c .before .before .before in
     let begin = start (known .before .before .before) in
     let a = begin .args in
-    stage-positions (a .job .now) (a .at) (a .dim) (a .complex) _ (counted .result) _ (read .result) (positions known)
-    (c .before .before .before .payload .ensures)
-    (counted .ensures .0) (counted .ensures .1 (omega (arith, begin .pre .0))) (positions-marked (c .before)) (read .ensures)
+    stage-positions (a .job .now) (a .at) (a .dim) X _ _ (read .result) (c .before .before .payload .ensures)
+    (positions-marked (c .before)) (positions known) count (begin .pre .1 .0 .0) (read .ensures)
 
 returns-3 : tie.Need-returns-3
-returns-3 c =
+returns-3 c = λ X own count.
     let read = c .before .read-walk in
-    let known = c .before .before .before .before in
-    let a = start (known .before .before .before) .args in
-    stage-walk (a .job .now) (a .at) (a .dim) (a .complex) _ _ (read .result) (walk known) (c .before .before .before .payload2 .ensures)
-    (walk-marked (c .before)) (read .ensures)
+    let known = c .before .before .before in
+    let begin = start (known .before .before .before) in
+    let a = begin .args in
+    stage-walk (a .job .now) (a .at) (a .dim) X _ _ (read .result) (c .before .before .payload2 .ensures)
+    (walk-marked (c .before)) (walk known) own (omega (arith, begin .pre .1 .0, begin .pre .1 .1 .1 .keyed .count)) (read .ensures)
 
 pub read-chain-spec : {M : Type 1} → statement M
 read-chain-spec =
@@ -134,7 +131,6 @@ read-chain-spec =
     enum-known-opened-2
     add-start
     payload-requires
-    count-requires
     read-positions-requires
     add-t26
     enum-known-opened-3

@@ -3,17 +3,17 @@ use Prim.Native.Nat.{_-_}
 use mathlib.Core.Path.{_≡_}
 use lib.ListN.{length}
 use Rattle.format.specs.Simplex.{rank}
-use Rattle.lists.specs.Meaning.{simplicesOf, rankOf}
+use Rattle.lists.specs.Meaning.{rankOf}
+use Rattle.lookup.specs.Numbered.{simplicesIn}
 use Rattle.lists.specs.declared.Found.{Found}
 use Rattle.chosen.specs.Meaning.{stepAt}
-use Rattle.lists.specs.Items.{length-mapped}
 use Rattle.chosen.proofs.Steps.{Walking, walking-starts, walking-astray, walking-goes-on, walk-refused, walk-read, rank-few, looked-up}
 use borrow.Author.Needs.{needs}
 use Rattle.chosen.proofs.read_walk.Statement.{statement}
 use Rattle.chosen.proofs.read_walk.Tie as tie
 
 abbrev Inv-loop : tie.InvT-loop
-Inv-loop p base edges keys first next marks₀ i₀ marks i = Walking p base (simplicesOf edges) (marks .on) i
+Inv-loop p base edges keys first next marks₀ i₀ marks i = Walking p base (simplicesIn 2 keys edges) (marks .on) i
 
 abbrev μ-loop : tie.MeasureT-loop
 μ-loop p base edges keys first next marks₀ i₀ marks i = length p - i
@@ -31,9 +31,6 @@ step-at-requires c κs = search needs
 abbrev start : tie.At-loop Inv-loop μ-loop → tie.Start Inv-loop μ-loop
 start p = p .before .before .before .before .before .before
 
-full : (s : tie.Start Inv-loop μ-loop) → length (s .args .edges .items) ≡ 512
-full s = search (needs, length-mapped)
-
 find-requires : tie.Need-find-requires Inv-loop μ-loop
 find-requires c κs = start (c .before .before) .pre .1 .1 .chained
 
@@ -42,7 +39,7 @@ module _ (c : tie.After-find Inv-loop μ-loop) (f : Found) (told : c .find .resu
   abbrev walk : tie.At-loop Inv-loop μ-loop
   walk = c .before .before .before
 
-  found-rank : rank (stepAt (start walk .args .p .now) (walk .loop .i)) (simplicesOf (start walk .args .edges)) ≡ rankOf f
+  found-rank : rank (stepAt (start walk .args .p .now) (walk .loop .i)) (simplicesIn 2 (start walk .args .keys .now) (start walk .args .edges)) ≡ rankOf f
   found-rank = looked-up (start walk .args .p .now) (walk .loop .i) f (c .before .step-at .ensures) (c .find .ensures) (start walk .pre .1 .0) (start walk .pre .1 .1) told
 
 enum-known-found : tie.Need-enum-known-found Inv-loop μ-loop
@@ -58,15 +55,14 @@ returns : tie.Need-returns Inv-loop μ-loop
 returns c =
     let looked = c .before .before in
     let turn = looked .before .before in
-    let edges = start (turn .before) .args .edges in
-    walk-refused _ _ edges (full (start (turn .before))) _ _ (turn .before .loop .marks)
+    walk-refused (turn .before .loop .marks)
     (walking-astray (turn .before .loop .inv) (turn .loop-test .taken) (found-rank looked _ (c .enum-told .given .1)))
 
 element-write-marks : tie.Need-element-write-marks Inv-loop μ-loop
 element-write-marks c =
     let looked = c .before .before .before in
     let start = start (looked .before .before .before) in
-    rank-few (start .args .edges) (full start) _ _ (found-rank looked _ (c .before .found .given .1))
+    rank-few _ (start .pre .0 .1) (start .pre .1 .1) (found-rank looked _ (c .before .found .given .1))
 
 add-i : tie.Need-add-i Inv-loop μ-loop
 add-i c = search needs
@@ -78,13 +74,13 @@ loop-again : tie.Need-loop-again Inv-loop μ-loop
 loop-again c =
     let looked = c .before .before .before in
     let turn = looked .before .before in
-    let edges = start (turn .before) .args .edges in
+    let start = start (turn .before) in
     let found = found-rank looked _ (c .before .found .given .1) in
     walking-goes-on (turn .before .loop .inv) (turn .loop-test .taken) (c .before .found .given .0 .0) found
-    (rank-few edges (full (start (turn .before))) _ _ found)
+    (rank-few _ (start .pre .0 .1) (start .pre .1 .1) found)
 
 returns-2 : tie.Need-returns-2 Inv-loop μ-loop
-returns-2 c = walk-read _ (full (start (c .before))) (c .before .loop .marks) (c .before .loop .inv) (c .loop-test .left)
+returns-2 c = walk-read (c .before .loop .marks) (c .before .loop .inv) (c .loop-test .left)
 
 pub read-walk-spec : {M : Type 1} → statement M
 read-walk-spec =

@@ -4,18 +4,90 @@ use Prim.Native.Nat.{ℕ}
 use mathlib.Core.Path.{_≡_, refl, sym, _∙_, ap}
 use mathlib.Core.List.{List, []}
 use native.Mathlib.Omega.{arith}
+use lib.ListN.{length, length-replicate}
 use Rattle.format.specs.Numbers.{small}
+use Rattle.format.specs.Simplex.{Simplex}
 use Rattle.format.specs.Reading.{Listing, accepted, readList}
-use Rattle.lists.specs.Meaning.{simplicesOf}
 use Rattle.keys.specs.Chained.{chained-none}
-use Rattle.lookup.specs.IndexLaws.{zeros-blank}
+use Rattle.lookup.specs.Numbered.{simplicesIn}
 use Rattle.stages.specs.Meaning.{listRead}
 use Rattle.stages.specs.declared.ListRead.{ListRead}
 use Rattle.jobs.specs.Meaning.{ListSound}
-use Rattle.jobs.proofs.Laws.{list-refused, list-fine, list-known, faces-in, no-faces, complex-sound, told-refused, no-edges, no-triangles, all-lists}
+use Rattle.jobs.proofs.Laws.{list-refused, list-fine, list-known, faces-in, no-faces, complex-sound, lists-told-refused, no-edges, no-triangles, all-lists}
 use borrow.Author.Needs.{needs}
 use Rattle.jobs.proofs.read_lists.Statement.{statement}
 use Rattle.jobs.proofs.read_lists.Tie as tie
+
+-- the edges were read, over no list
+module _ (c : tie.After-read-list) where
+  abbrev start : tie.Start
+  start = c .before .before .before .before .before .before .before .before .before .before .before .before .before .before .before
+
+  abbrev job : List ℕ
+  job = start .args .job .now
+
+  abbrev edges : ListRead
+  edges = c .read-list .result
+
+  abbrev edge-keys : List ℕ
+  edge-keys = c .read-list .last .1 .1 .1 .1 .1 .1 .1 .1 .0
+
+  abbrev edge-list : List Simplex
+  edge-list = simplicesIn 2 edge-keys (edges .count)
+
+  edges-told : listRead 2 edge-keys edges ≡ readList small job (start .args .at) 2 (start .args .v) []
+  edges-told = c .read-list .ensures .reads [] (no-faces _)
+
+-- and none of them was refused
+module _ (c : tie.After-enum-told) where
+  abbrev first-read : tie.After-read-list
+  first-read = c .before .before .before .before .before .before .before .before
+
+  edges-fine : let e = first-read in
+      readList small (job e) (start e .args .at) 2 (start e .args .v) [] ≡ accepted (record { list = edge-list e; next = edges e .next })
+  edges-fine =
+      let e = first-read in
+      list-fine (job e) (start e .args .at) 2 (start e .args .v) [] (edge-keys e) (edges e) (edges-told e) (c .enum-told .given .1)
+
+  edges-known : ListSound 2 (start first-read .args .v) [] (edge-list first-read)
+  edges-known = list-known (job first-read) (start first-read .args .at) 2 (start first-read .args .v) _ _ (omega arith) edges-fine
+
+-- the triangles were read, over the edges
+module _ (c : tie.After-read-list2) where
+  abbrev over-edges : tie.After-enum-told
+  over-edges = c .before .before .before .before .before .before .before
+
+  abbrev triangles : ListRead
+  triangles = c .read-list2 .result
+
+  abbrev triangle-keys : List ℕ
+  triangle-keys = c .read-list2 .last .1 .1 .1 .1 .1 .1 .1 .1 .0
+
+  abbrev triangle-list : List Simplex
+  triangle-list = simplicesIn 3 triangle-keys (triangles .count)
+
+  triangles-told : let e = first-read over-edges in
+      listRead 3 triangle-keys triangles ≡ readList small (job e) (edges e .next) 3 (start e .args .v) (edge-list e)
+  triangles-told = c .read-list2 .ensures .reads _ (faces-in 3 _ (edges-known over-edges) (first-read over-edges .read-list .ensures .indexed))
+
+-- and none of them was refused
+module _ (c : tie.After-enum-told2) where
+  abbrev second-read : tie.After-read-list2
+  second-read = c .before .before .before .before .before .before .before .before
+
+  abbrev before-them : tie.After-read-list
+  before-them = first-read (over-edges second-read)
+
+  triangles-fine : let e = before-them in
+      readList small (job e) (edges e .next) 3 (start e .args .v) (edge-list e)
+      ≡ accepted (record { list = triangle-list second-read; next = triangles second-read .next })
+  triangles-fine =
+      let e = before-them in
+      list-fine (job e) (edges e .next) 3 (start e .args .v) _ (triangle-keys second-read) (triangles second-read) (triangles-told second-read)
+      (c .enum-told2 .given .1)
+
+  triangles-known : ListSound 3 (start before-them .args .v) (edge-list before-them) (triangle-list second-read)
+  triangles-known = list-known (job before-them) (edges before-them .next) 3 (start before-them .args .v) _ _ (omega arith) triangles-fine
 
 slice-aggregate-read-list : tie.Need-slice-aggregate-read-list
 slice-aggregate-read-list c = search needs
@@ -27,62 +99,7 @@ slice-aggregate-read-list-3 : tie.Need-slice-aggregate-read-list-3
 slice-aggregate-read-list-3 c = search needs
 
 read-list-requires : tie.Need-read-list-requires
-read-list-requires c κs =
-    ((omega arith, omega arith), (chained-none _ _, c .before .before .before .before .before .before .before .before .before .before .pre))
-
--- a list as the definition has it
-abbrev listing : ListRead → Listing
-listing r = record { list = simplicesOf (r .list); next = r .next }
-
--- the edges were read, over no list
-module _ (c : tie.After-read-list) where
-  abbrev start : tie.Start
-  start = c .before .before .before .before .before .before .before .before .before .before .before
-
-  abbrev job : List ℕ
-  job = start .args .job .now
-
-  abbrev edges : ListRead
-  edges = c .read-list .result
-
-  edges-told : listRead edges ≡ readList small job (start .args .at) 2 (start .args .v) []
-  edges-told = c .read-list .ensures .reads [] (no-faces _)
-
--- and none of them was refused
-module _ (c : tie.After-enum-told) where
-  abbrev first-read : tie.After-read-list
-  first-read = c .before .before .before .before .before .before .before .before
-
-  edges-fine : readList small (job first-read) (start first-read .args .at) 2 (start first-read .args .v) [] ≡ accepted (listing (edges first-read))
-  edges-fine = list-fine (job first-read) (start first-read .args .at) 2 (start first-read .args .v) [] (edges first-read) (edges-told first-read) (c .enum-told .given .1)
-
-  edges-known : ListSound 2 (start first-read .args .v) [] (simplicesOf (edges first-read .list))
-  edges-known = list-known (job first-read) (start first-read .args .at) 2 (start first-read .args .v) _ _ (omega arith) edges-fine
-
--- the triangles were read, over the edges
-module _ (c : tie.After-read-list2) where
-  abbrev over-edges : tie.After-enum-told
-  over-edges = c .before .before .before .before .before .before .before
-
-  abbrev triangles : ListRead
-  triangles = c .read-list2 .result
-
-  triangles-told : let e = first-read over-edges in listRead triangles ≡ readList small (job e) (edges e .next) 3 (start e .args .v) (simplicesOf (edges e .list))
-  triangles-told = c .read-list2 .ensures .reads _ (faces-in 3 _ (edges-known over-edges) (first-read over-edges .read-list .ensures .indexed))
-
--- and none of them was refused
-module _ (c : tie.After-enum-told2) where
-  abbrev second-read : tie.After-read-list2
-  second-read = c .before .before .before .before .before
-
-  abbrev before-them : tie.After-read-list
-  before-them = first-read (over-edges second-read)
-
-  triangles-fine : readList small (job before-them) (edges before-them .next) 3 (start before-them .args .v) (simplicesOf (edges before-them .list)) ≡ accepted (listing (triangles second-read))
-  triangles-fine = list-fine (job before-them) (edges before-them .next) 3 (start before-them .args .v) _ (triangles second-read) (triangles-told second-read) (c .enum-told2 .given .1)
-
-  triangles-known : ListSound 3 (start before-them .args .v) (simplicesOf (edges before-them .list)) (simplicesOf (triangles second-read .list))
-  triangles-known = list-known (job before-them) (edges before-them .next) 3 (start before-them .args .v) _ _ (omega arith) triangles-fine
+read-list-requires c κs = ((omega arith, omega arith), (chained-none _ _, c .before .before .before .before .before .before .before .before .before .before .before .before .before .before .pre .edges))
 
 enum-known-edges-verdict : tie.Need-enum-known-edges-verdict
 enum-known-edges-verdict c = search needs
@@ -103,26 +120,17 @@ returns : tie.Need-returns
 returns c =
     let told = c .before .before in
     let read = told .before .before .before .before .before .before .before .before in
-    told-refused (c .refused .result) (c .refused .ensures)
+    lists-told-refused (c .refused .result) (c .refused .ensures)
     (no-edges (job read) (start read .args .at) (start read .args .v) _ _
-    (list-refused (job read) (start read .args .at) 2 (start read .args .v) [] (edges read) _ _ (edges-told read) (told .edges-verdict .given .1)))
+    (list-refused (job read) (start read .args .at) 2 (start read .args .v) [] (edge-keys read) (edges read) _ _ (edges-told read) (told .edges-verdict .given .1)))
 
 enum-told : tie.Need-enum-told
 enum-told c = search needs
 
-slice-aggregate-read-list-4 : tie.Need-slice-aggregate-read-list-4
-slice-aggregate-read-list-4 c = search needs
-
-slice-aggregate-read-list-5 : tie.Need-slice-aggregate-read-list-5
-slice-aggregate-read-list-5 c = search needs
-
-slice-aggregate-read-list-6 : tie.Need-slice-aggregate-read-list-6
-slice-aggregate-read-list-6 c = search needs
-
 read-list-requires-2 : tie.Need-read-list-requires-2
 read-list-requires-2 c κs =
-    let told = c .before .before .before .before .before .before in
-    ((omega arith, omega arith), (first-read told .read-list .ensures .indexed .chained, zeros-blank))
+    let e = first-read (c .before .before .before .before .before .before) in
+    ((omega arith, omega arith), (e .read-list .ensures .indexed .chained, start e .pre .triangles))
 
 enum-known-triangles-verdict : tie.Need-enum-known-triangles-verdict
 enum-known-triangles-verdict c = search needs
@@ -131,77 +139,110 @@ refused-requires-2 : tie.Need-refused-requires-2
 refused-requires-2 c κs = search needs
 
 same-length-4 : tie.Need-same-length-4
-same-length-4 c = first-read (over-edges (c .before .before .before .before .before .before .before)) .read-list .kept .1 .1 .1 .1 .1 .1 .1 .1 .0
+same-length-4 c = first-read (over-edges (c .before .before .before .before .before .before .before .before .before .before)) .read-list .kept .1 .1 .1 .1 .1 .1 .1 .1 .0
 
 same-length-5 : tie.Need-same-length-5
-same-length-5 c = first-read (over-edges (c .before .before .before .before .before .before .before)) .read-list .kept .1 .1 .1 .1 .1 .1 .1 .1 .1 .0
+same-length-5 c = first-read (over-edges (c .before .before .before .before .before .before .before .before .before .before)) .read-list .kept .1 .1 .1 .1 .1 .1 .1 .1 .1 .0
 
 same-length-6 : tie.Need-same-length-6
-same-length-6 c = first-read (over-edges (c .before .before .before .before .before .before .before)) .read-list .kept .1 .1 .1 .1 .1 .1 .1 .1 .1 .1 .0
+same-length-6 c = first-read (over-edges (c .before .before .before .before .before .before .before .before .before .before)) .read-list .kept .1 .1 .1 .1 .1 .1 .1 .1 .1 .1 .0
+
+same-length-7 : tie.Need-same-length-7
+same-length-7 c = search needs
+
+same-length-8 : tie.Need-same-length-8
+same-length-8 c = search needs
+
+same-length-9 : tie.Need-same-length-9
+same-length-9 c = search needs
 
 returns-2 : tie.Need-returns-2
 returns-2 c =
     let told = c .before .before in
-    let read = told .before .before .before .before .before in
+    let read = told .before .before .before .before .before .before .before .before in
     let e = first-read (over-edges read) in
-    told-refused (c .refused2 .result) (c .refused2 .ensures)
+    lists-told-refused (c .refused2 .result) (c .refused2 .ensures)
     (no-triangles (job e) (start e .args .at) (start e .args .v) _ (edges-fine (over-edges read)) _ _
-    (list-refused (job e) (edges e .next) 3 (start e .args .v) _ (triangles read) _ _ (triangles-told read) (told .triangles-verdict .given .1)))
+    (list-refused (job e) (edges e .next) 3 (start e .args .v) _ (triangle-keys read) (triangles read) _ _ (triangles-told read) (told .triangles-verdict .given .1)))
 
 enum-told-2 : tie.Need-enum-told-2
 enum-told-2 c = search needs
 
-slice-aggregate-read-list-7 : tie.Need-slice-aggregate-read-list-7
-slice-aggregate-read-list-7 c = search needs
+slice-aggregate-read-list-4 : tie.Need-slice-aggregate-read-list-4
+slice-aggregate-read-list-4 c = search needs
 
-slice-aggregate-read-list-8 : tie.Need-slice-aggregate-read-list-8
-slice-aggregate-read-list-8 c = search needs
-
-slice-aggregate-read-list-9 : tie.Need-slice-aggregate-read-list-9
-slice-aggregate-read-list-9 c = search needs
-
-slice-aggregate-read-list-10 : tie.Need-slice-aggregate-read-list-10
-slice-aggregate-read-list-10 c = search needs
-
-slice-aggregate-read-list-11 : tie.Need-slice-aggregate-read-list-11
-slice-aggregate-read-list-11 c = search needs
-
-slice-aggregate-read-list-12 : tie.Need-slice-aggregate-read-list-12
-slice-aggregate-read-list-12 c = search needs
+slice-aggregate-read-list-5 : tie.Need-slice-aggregate-read-list-5
+slice-aggregate-read-list-5 c = search needs
 
 read-list-requires-3 : tie.Need-read-list-requires-3
 read-list-requires-3 c κs =
-    let told = c .before .before .before .before .before .before in
-    ((omega arith, omega arith), (second-read told .read-list2 .ensures .indexed .chained, zeros-blank))
+    let told = c .before .before .before .before .before .before in (
+      (omega arith, omega arith),
+      (
+        second-read told .read-list2 .ensures .indexed .chained,
+        record {
+          keys-room = start (before-them told) .pre .tetrahedra;
+          next-room = omega (arith, length-replicate {A = ℕ} 512 0);
+          none = refl;
+        },
+      ),
+    )
 
-same-length-7 : tie.Need-same-length-7
-same-length-7 c = before-them (c .before .before .before .before .before .before .before .before .before .before .before .before .before) .read-list .kept .1 .1 .1 .1 .1 .1 .1 .1 .0
+same-length-10 : tie.Need-same-length-10
+same-length-10 c = before-them (c .before .before .before .before .before .before .before .before .before .before .before) .read-list .kept .1 .1 .1 .1 .1 .1 .1 .1 .0
 
-same-length-8 : tie.Need-same-length-8
-same-length-8 c = before-them (c .before .before .before .before .before .before .before .before .before .before .before .before .before) .read-list .kept .1 .1 .1 .1 .1 .1 .1 .1 .1 .0
+same-length-11 : tie.Need-same-length-11
+same-length-11 c = before-them (c .before .before .before .before .before .before .before .before .before .before .before) .read-list .kept .1 .1 .1 .1 .1 .1 .1 .1 .1 .0
 
-same-length-9 : tie.Need-same-length-9
-same-length-9 c = before-them (c .before .before .before .before .before .before .before .before .before .before .before .before .before) .read-list .kept .1 .1 .1 .1 .1 .1 .1 .1 .1 .1 .0
+same-length-12 : tie.Need-same-length-12
+same-length-12 c = before-them (c .before .before .before .before .before .before .before .before .before .before .before) .read-list .kept .1 .1 .1 .1 .1 .1 .1 .1 .1 .1 .0
+
+same-length-13 : tie.Need-same-length-13
+same-length-13 c = search needs
+
+same-length-14 : tie.Need-same-length-14
+same-length-14 c = search needs
+
+same-length-15 : tie.Need-same-length-15
+same-length-15 c = search needs
+
+same-length-16 : tie.Need-same-length-16
+same-length-16 c = search needs
 
 returns-3 : tie.Need-returns-3
 returns-3 c =
-    let read = c .before .before .before .before .before .before in
+    let read = c .before .before .before .before in
     let told = read .before .before .before .before .before .before .before in
     let e = before-them told in
     let t = second-read told in
     let v = start e .args .v in
     let tetrahedra = read .read-list3 .result in
-    let tetrahedra-told : listRead tetrahedra ≡ readList small (job e) (triangles t .next) 4 v (simplicesOf (triangles t .list)) =
+    let keys = read .read-list3 .last .1 .1 .1 .1 .1 .1 .1 .1 .0 in
+    let tetrahedra-told : listRead 4 keys tetrahedra ≡ readList small (job e) (triangles t .next) 4 v (triangle-list t) =
     read .read-list3 .ensures .reads _ (faces-in 4 _ (triangles-known told) (t .read-list2 .ensures .indexed)) in
     record {
       reads =
-          all-lists (job e) (start e .args .at) v _ (edges-fine (over-edges t)) _ (triangles-fine told) (tetrahedra .verdict) (listing tetrahedra)
-          (sym tetrahedra-told);
-      sound = λ f few.
-          complex-sound v _ _ _ few (edges-known (over-edges t)) (triangles-known told)
-          (list-known (job e) (triangles t .next) 4 v _ _ (omega arith) (list-fine (job e) (triangles t .next) 4 v _ tetrahedra tetrahedra-told f));
-      vertices = λ f. refl;
-      indexed = λ f. e .read-list .ensures .indexed;
+          all-lists (job e) (start e .args .at) v _ (edges-fine (over-edges t)) _ (triangles-fine told) (tetrahedra .verdict)
+          (record { list = simplicesIn 4 keys (tetrahedra .count); next = tetrahedra .next }) (sym tetrahedra-told);
+      held = λ f few. record {
+        sound =
+            complex-sound v _ _ _ few (edges-known (over-edges t)) (triangles-known told)
+            (list-known (job e) (triangles t .next) 4 v _ _ (omega arith)
+            (list-fine (job e) (triangles t .next) 4 v _ keys tetrahedra tetrahedra-told f));
+        roomy = record {
+          few-edges = e .read-list .ensures .few;
+          few-triangles = t .read-list2 .ensures .few;
+          few-tetrahedra = read .read-list3 .ensures .few;
+          edges-room = omega (arith, start e .pre .edges .keys-room, e .read-list .kept .1 .1 .1 .1 .1 .1 .1 .1 .0);
+          triangles-room = omega (arith, start e .pre .triangles .keys-room, t .read-list2 .kept .1 .1 .1 .1 .1 .1 .1 .1 .0);
+          tetrahedra-room = omega (arith, start e .pre .tetrahedra, read .read-list3 .kept .1 .1 .1 .1 .1 .1 .1 .1 .0);
+        };
+        edges = e .read-list .ensures .indexed;
+        triangles = t .read-list2 .ensures .indexed;
+        tetrahedra = read .read-list3 .ensures .indexed .keyed;
+        edges-links = omega (arith, start e .pre .edges .next-room, e .read-list .kept .1 .1 .1 .1 .1 .1 .1 .1 .1 .1 .0);
+        triangles-links = omega (arith, start e .pre .triangles .next-room, t .read-list2 .kept .1 .1 .1 .1 .1 .1 .1 .1 .1 .1 .0);
+      };
     }
 
 pub read-lists-spec : {M : Type 1} → statement M
@@ -219,25 +260,25 @@ read-lists-spec =
     same-length-3
     returns
     enum-told
-    slice-aggregate-read-list-4
-    slice-aggregate-read-list-5
-    slice-aggregate-read-list-6
     read-list-requires-2
     enum-known-triangles-verdict
     refused-requires-2
     same-length-4
     same-length-5
     same-length-6
-    returns-2
-    enum-told-2
-    slice-aggregate-read-list-7
-    slice-aggregate-read-list-8
-    slice-aggregate-read-list-9
-    slice-aggregate-read-list-10
-    slice-aggregate-read-list-11
-    slice-aggregate-read-list-12
-    read-list-requires-3
     same-length-7
     same-length-8
     same-length-9
+    returns-2
+    enum-told-2
+    slice-aggregate-read-list-4
+    slice-aggregate-read-list-5
+    read-list-requires-3
+    same-length-10
+    same-length-11
+    same-length-12
+    same-length-13
+    same-length-14
+    same-length-15
+    same-length-16
     returns-3)

@@ -1,31 +1,52 @@
--- `mvozelanke::mvz_answer` keeps its promise: each return is one of its cases.
+-- `mvozelanke::mvz_answer` meets its contract: each return is one of the promise's cases.
+-- Assumes nothing.
+use Prim.Native.Nat.{ℕ}
 use native.Mathlib.Omega.{arith}
-use mathlib.Core.Path.{_≡_, _∙_, ap}
-use lib.ListN.{length, replicate}
-use Rattle.jobs.specs.Known.{read-readable}
+use mathlib.Core.Path.{ap, _∙_}
+use lib.ListN.{replicate, length-replicate}
+use Rattle.lookup.specs.IndexLaws.{zeros-blank}
+use Rattle.jobs.specs.Known.{told-asking}
 use Rattle.mvozelanke.proofs.Laws.{short-output, short-memory, kept-refusal, kept-answer}
 use borrow.Author.Needs.{needs}
 use Rattle.mvozelanke.proofs.mvz_answer.Statement.{statement}
 use Rattle.mvozelanke.proofs.mvz_answer.Tie as tie
 
 returns : tie.Need-returns
-returns c =
-    let a = c .before .before .before .before .args in
-    short-output (a .job .now) (a .out .now) (a .work .now) (omega arith)
+returns c = short-output _ _ _ (c .if1 .taken)
 
 returns-2 : tie.Need-returns-2
-returns-2 c =
-    let a = c .before .before .before .before .before .args in
-    short-memory (a .job .now) (a .out .now) (a .work .now) (omega arith)
+returns-2 c = short-memory _ _ _ (c .if2 .taken)
 
-read-job-requires : tie.Need-read-job-requires
-read-job-requires c κs = search needs
+slice-aggregate-read-numbers : tie.Need-slice-aggregate-read-numbers
+slice-aggregate-read-numbers c = search needs
+
+slice-aggregate-read-numbers-2 : tie.Need-slice-aggregate-read-numbers-2
+slice-aggregate-read-numbers-2 c = search needs
+
+slice-aggregate-read-numbers-3 : tie.Need-slice-aggregate-read-numbers-3
+slice-aggregate-read-numbers-3 c = search needs
+
+slice-aggregate-read-numbers-4 : tie.Need-slice-aggregate-read-numbers-4
+slice-aggregate-read-numbers-4 c = search needs
+
+slice-aggregate-read-numbers-5 : tie.Need-slice-aggregate-read-numbers-5
+slice-aggregate-read-numbers-5 c = search needs
+
+slice-aggregate-read-numbers-6 : tie.Need-slice-aggregate-read-numbers-6
+slice-aggregate-read-numbers-6 c = search needs
+
+slice-aggregate-read-numbers-7 : tie.Need-slice-aggregate-read-numbers-7
+slice-aggregate-read-numbers-7 c = search needs
+
+read-numbers-requires : tie.Need-read-numbers-requires
+read-numbers-requires c κs =
+    record { edges = zeros-blank; triangles = zeros-blank; tetrahedra = omega (arith, length-replicate {A = ℕ} 512 0) }
 
 enum-known-verdict : tie.Need-enum-known-verdict
 enum-known-verdict c = search needs
 
 put-refusal-requires : tie.Need-put-refusal-requires
-put-refusal-requires c κs = search needs
+put-refusal-requires c κs = omega (arith, c .before .before .before .before .before .before .before .before .before .before .before .before .before .before .before .before .before .before .before .before .if1 .left)
 
 clear-requires : tie.Need-clear-requires
 clear-requires c κs = search needs
@@ -33,9 +54,34 @@ clear-requires c κs = search needs
 enum-told : tie.Need-enum-told
 enum-told c = search needs
 
+slice-aggregate-answer-job : tie.Need-slice-aggregate-answer-job
+slice-aggregate-answer-job c = search needs
+
+slice-aggregate-answer-job-2 : tie.Need-slice-aggregate-answer-job-2
+slice-aggregate-answer-job-2 c = search needs
+
+slice-aggregate-answer-job-3 : tie.Need-slice-aggregate-answer-job-3
+slice-aggregate-answer-job-3 c = search needs
+
+slice-aggregate-answer-job-4 : tie.Need-slice-aggregate-answer-job-4
+slice-aggregate-answer-job-4 c = search needs
+
+slice-aggregate-answer-job-5 : tie.Need-slice-aggregate-answer-job-5
+slice-aggregate-answer-job-5 c = search needs
+
+slice-aggregate-answer-job-6 : tie.Need-slice-aggregate-answer-job-6
+slice-aggregate-answer-job-6 c = search needs
+
+slice-aggregate-answer-job-7 : tie.Need-slice-aggregate-answer-job-7
+slice-aggregate-answer-job-7 c = search needs
+
 answer-job-requires : tie.Need-answer-job-requires
 answer-job-requires c κs =
-    (read-readable _ _ (c .before .before .before .before .before .read-job .ensures) (c .before .before .before .enum-told .given .1), (omega arith, omega arith))
+    let told = c .before .before .before .before .before .before .before .before .before in
+    let read = told .before .before .before .before .before .before .before .before .before in (
+      told-asking _ _ (read .read-numbers .ensures) (told .enum-told .given .1),
+      (omega (arith, read .before .before .before .before .before .before .before .before .before .if1 .left), omega (arith, read .before .before .before .before .before .before .before .before .if2 .left)),
+    )
 
 clear-requires-2 : tie.Need-clear-requires-2
 clear-requires-2 c κs = search needs
@@ -48,8 +94,12 @@ same-length-2 c = search needs
 
 returns-3 : tie.Need-returns-3
 returns-3 c =
-    let a = c .before .before .before .before .before .before .before .before .before .before .before .before .before .before .before .before .before .args in
-    kept-refusal (a .job .now) (a .out .now) (a .work .now) (omega arith) (omega arith) (c .before .before .before .before .before .before .before .before .before .before .before .read-job .result) _ _ (c .before .before .before .before .before .before .before .before .before .before .before .read-job .ensures) (c .before .before .before .before .before .before .before .before .before .verdict .given .1) (c .before .before .before .before .before .before .put-refusal .ensures) (c .before .before .clear .ensures)
+    let cleared = c .before .before in
+    let put = cleared .before .before .before .before in
+    let told = put .before .before .before in
+    let read = told .before .before .before .before .before .before .before .before .before in
+    kept-refusal _ _ _ (omega (arith, read .before .before .before .before .before .before .before .before .before .if1 .left)) (omega (arith, read .before .before .before .before .before .before .before .before .if2 .left)) (read .read-numbers .result)
+    (read .read-numbers .ensures) _ _ (told .verdict .given .1) (put .put-refusal .ensures) (cleared .clear .ensures)
 
 same-length-3 : tie.Need-same-length-3
 same-length-3 c = search needs
@@ -59,9 +109,13 @@ same-length-4 c = search needs
 
 returns-4 : tie.Need-returns-4
 returns-4 c =
-    let a = c .before .before .before .before .before .before .before .before .before .before .before .before .before .before .before .before .before .before .before .before .args in
-    let same : length (c .before .before .before .before .before .before .before .before .answer-job .last .1 .0) ≡ length (a .work .now) = search needs in
-    kept-answer (a .job .now) (a .out .now) (a .work .now) (omega arith) (omega arith) (c .before .before .before .before .before .before .before .before .before .before .before .before .before .before .read-job .result) (c .before .before .before .before .before .before .before .before .before .before .before .before .before .before .read-job .ensures) (c .before .before .before .before .before .before .before .before .before .before .before .before .enum-told .given .1) (c .before .before .before .before .before .before .before .before .answer-job .ensures) (c .before .before .clear2 .ensures ∙ ap (λ n. replicate n 0) same)
+    let cleared = c .before .before in
+    let done = cleared .before .before .before .before .before .before in
+    let told = done .before .before .before .before .before .before .before .before .before .before in
+    let read = told .before .before .before .before .before .before .before .before .before in
+    kept-answer _ _ _ (omega (arith, read .before .before .before .before .before .before .before .before .before .if1 .left)) (omega (arith, read .before .before .before .before .before .before .before .before .if2 .left)) (read .read-numbers .result)
+    (read .read-numbers .ensures) (told .enum-told .given .1) (done .answer-job .ensures)
+    (cleared .clear2 .ensures ∙ ap (λ n. replicate n 0) (done .answer-job .kept .1 .0))
 
 pub mvz-answer-spec : {M : Type 1} → statement M
 mvz-answer-spec =
@@ -69,11 +123,25 @@ mvz-answer-spec =
     (tie.spec
     returns
     returns-2
-    read-job-requires
+    slice-aggregate-read-numbers
+    slice-aggregate-read-numbers-2
+    slice-aggregate-read-numbers-3
+    slice-aggregate-read-numbers-4
+    slice-aggregate-read-numbers-5
+    slice-aggregate-read-numbers-6
+    slice-aggregate-read-numbers-7
+    read-numbers-requires
     enum-known-verdict
     put-refusal-requires
     clear-requires
     enum-told
+    slice-aggregate-answer-job
+    slice-aggregate-answer-job-2
+    slice-aggregate-answer-job-3
+    slice-aggregate-answer-job-4
+    slice-aggregate-answer-job-5
+    slice-aggregate-answer-job-6
+    slice-aggregate-answer-job-7
     answer-job-requires
     clear-requires-2
     same-length

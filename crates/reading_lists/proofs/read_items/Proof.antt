@@ -2,28 +2,23 @@
 -- the start, and the items taken are entered.
 -- Assumes nothing.
 use Prim.Native.Nat.{_-_, _<_}
-use mathlib.Core.Path.{_≡_}
 use native.Mathlib.Omega.{arith}
 use lib.ListN.{length}
-use Rattle.lists.specs.Items.{length-mapped}
 use Rattle.reading_lists.proofs.Taking.{Taking, taking-start, taking-refused, taking-on, taking-end, room, keys-room, next-room}
 use borrow.Author.Needs.{needs}
 use Rattle.reading_lists.proofs.read_items.Statement.{statement}
 use Rattle.reading_lists.proofs.read_items.Tie as tie
 
 abbrev Inv-loop : tie.InvT-loop
-Inv-loop p base v width face-keys face-first face-next m keys₀ first₀ next₀ list₀ at₀ keys first next list at =
-    Taking p base v width face-keys m list at keys₀ first₀ next₀ keys first next
+Inv-loop p base v width face-keys face-first face-next m keys₀ first₀ next₀ count₀ at₀ keys first next count at =
+    Taking p base v width face-keys m count at keys₀ first₀ next₀ keys first next
 
 abbrev μ-loop : tie.MeasureT-loop
-μ-loop p base v width face-keys face-first face-next m keys₀ first₀ next₀ list₀ at₀ keys first next list at =
+μ-loop p base v width face-keys face-first face-next m keys₀ first₀ next₀ count₀ at₀ keys first next count at =
     length p - at
 
-empty-requires : tie.Need-empty-requires Inv-loop μ-loop
-empty-requires c κs = search needs
-
 loop-holds : tie.Need-loop-holds Inv-loop μ-loop
-loop-holds c = taking-start _ (search (needs, length-mapped)) (c .empty .ensures) (c .before .before .before .before .before .before .before .before .pre .1 .1)
+loop-holds c = taking-start (c .before .before .before .before .before .before .before .pre .1 .1)
 
 sub-loop : tie.Need-sub-loop Inv-loop μ-loop
 sub-loop c = search needs
@@ -33,11 +28,11 @@ simplex-at-requires c κs = omega arith
 
 -- what was known before the loop
 abbrev start : tie.At-loop Inv-loop μ-loop → tie.Start Inv-loop μ-loop
-start p = p .before .before .before .before .before .before .before .before .before
+start p = p .before .before .before .before .before .before .before .before
 
--- the list and its index have room for one item more
+-- the index has room for one item more
 module _ (c : tie.In-loop Inv-loop μ-loop) where
-  room-left : c .before .loop .list .count < 512
+  room-left : c .before .loop .count < 512
   room-left = room (c .before .loop .inv) (start (c .before) .pre .0) (c .loop-test .taken)
 
 judge-requires : tie.Need-judge-requires Inv-loop μ-loop
@@ -45,8 +40,8 @@ judge-requires c κs =
     let turn = c .before .before .before .before in
     (turn .before .loop .inv .indexed .chained, start (turn .before) .pre .1 .0)
 
-add-t27 : tie.Need-add-t27 Inv-loop μ-loop
-add-t27 c = search needs
+add-t25 : tie.Need-add-t25 Inv-loop μ-loop
+add-t25 c = search needs
 
 same-length : tie.Need-same-length Inv-loop μ-loop
 same-length c = search needs
@@ -74,24 +69,23 @@ enter-requires c κs =
       (keys-room inv shape (turn .loop-test .taken), next-room inv shape (turn .loop-test .taken), omega (arith, room-left turn)),
     )
 
-mul-s : tie.Need-mul-s Inv-loop μ-loop
-mul-s c = omega (arith, room-left (c .before .before .before .before .before .before .before .before .before .before .before .before .before .before .before .before))
+-- the turn at whose end an item was entered
+abbrev turn-of : tie.After-slice-known6 Inv-loop μ-loop → tie.In-loop Inv-loop μ-loop
+turn-of c =
+    c .before .before .before .before .before .before .before .before .before .before .before .before .before .before .before .before
 
-element-set-from-s : tie.Need-element-set-from-s Inv-loop μ-loop
-element-set-from-s c = omega (arith, room-left (c .before .before .before .before .before .before .before .before .before .before .before .before .before .before .before .before))
-
-add-list : tie.Need-add-list Inv-loop μ-loop
-add-list c = omega (arith, room-left (c .before .before .before .before .before .before .before .before .before .before .before .before .before .before .before .before))
+add-count : tie.Need-add-count Inv-loop μ-loop
+add-count c = omega (arith, room-left (turn-of c))
 
 add-at : tie.Need-add-at Inv-loop μ-loop
 add-at c =
-    let turn = c .before .before .before .before .before .before .before .before .before .before .before .before .before .before .before .before in
+    let turn = turn-of c in
     let shape = start (turn .before) .pre .0 in
     record { fits = omega (arith, turn .loop-test .taken, turn .before .loop .inv .within, shape .places) }
 
 loop-less : tie.Need-loop-less Inv-loop μ-loop
 loop-less c =
-    let turn = c .before .before .before .before .before .before .before .before .before .before .before .before .before .before .before .before in
+    let turn = turn-of c in
     omega (arith, turn .loop-test .taken, turn .before .loop .inv .within, start (turn .before) .pre .0 .least)
 
 loop-again : tie.Need-loop-again Inv-loop μ-loop
@@ -123,20 +117,17 @@ read-items-spec =
     (tie.spec
     Inv-loop
     μ-loop
-    empty-requires
     loop-holds
     sub-loop
     simplex-at-requires
     judge-requires
-    add-t27
+    add-t25
     same-length
     same-length-2
     same-length-3
     returns
     enter-requires
-    mul-s
-    element-set-from-s
-    add-list
+    add-count
     add-at
     loop-less
     loop-again

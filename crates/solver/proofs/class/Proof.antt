@@ -18,9 +18,9 @@ same-length-2 : tie.Need-same-length-2
 same-length-2 c = search needs
 
 returns : tie.Need-returns
-returns c =
+returns c = λ k.
     let done = c .before .before in
-    class-told _ _ _ _ (done .before .before .before .before .before .before .before .prepare .ensures) (done .class-in .ensures)
+    class-told _ _ _ _ (done .before .before .before .before .before .before .before .prepare .ensures k) (done .class-in .ensures)
 
 pub class-spec : {M : Type 1} → statement M
 class-spec =

@@ -8,7 +8,6 @@ use lib.ListN.{length}
 use lib.Dec.{eqb}
 use Rattle.format.specs.Reading.{accepted, readItems, itemsOf}
 use Rattle.format.specs.Opened.{opened, opened-inside, payload-long}
-use Rattle.lists.specs.Meaning.{simplicesOf}
 use Rattle.lists.specs.Verdicts.{told}
 use Rattle.stages.specs.Meaning.{openedOf}
 use Rattle.stages.proofs.Laws.{told-refused, list-refused, list-uneven, list-long, list-read}
@@ -93,7 +92,7 @@ read-items-requires c κs =
     )
 
 add-t22 : tie.Need-add-t22
-add-t22 c = omega (arith, fits (c .before .before .before .before .before .before .before .before .before .before .before .before .before .before))
+add-t22 c = omega (arith, fits (c .before .before .before .before .before .before .before .before .before .before .before .before .before))
 
 returns-3 : tie.Need-returns-3
 returns-3 c =
@@ -114,7 +113,7 @@ same-length-3 c = search needs
 
 returns-4 : tie.Need-returns-4
 returns-4 c =
-    let items = c .before .before .before .before .before .before .before in
+    let items = c .before .before .before .before .before .before in
     let read = items .before .before .before .before in
     let whole = read .before in
     let known = whole .before .before in
@@ -122,10 +121,11 @@ returns-4 c =
     record {
       reads = λ faces under.
           sym (list-read (a .job .now) (a .at) (a .kind) (a .v) faces (size known) (stands known) (omega (arith, whole .before .if1 .left))
-          (omega (arith, whole .if2 .left)) (items .read-items .result .verdict) (simplicesOf (items .read-items .result .list))
+          (omega (arith, whole .if2 .left)) (items .read-items .result .verdict) _
           (ap (λ q. readItems (a .kind) (a .v) faces (a .at + 6) [] (itemsOf (a .kind) q)) (sym (read .payload .ensures))
           ∙ sym (items .read-items .ensures .reads faces under)));
       indexed = items .read-items .ensures .indexed;
+      few = items .read-items .ensures .few;
     }
 
 pub read-list-spec : {M : Type 1} → statement M

@@ -1,0 +1,160 @@
+// The lists of a complex in lent arrays: each list is the numbers of its simplices, by rank; edges and triangles, in which
+// facets are looked up, are chained too. A complex by value is made of them for the edits, and for whoever writes a job.
+use complexes::Complex;
+use keys::BUCKETS;
+use lists::Marks;
+use lists::SimplexList;
+use lists::Verdict;
+ghost use mathlib.Core.Path.{_≡_};
+ghost use Prim.Native.Nat.{_≤_};
+ghost use lib.ListN.{length, replicate};
+ghost use Rattle.format.specs.Simplex.{simplices};
+ghost use Rattle.format.specs.Simplex as format;
+ghost use Rattle.lists.specs.Meaning.{simplicesOf};
+ghost use Rattle.keys.specs.Chained.{buckets};
+ghost use Rattle.lookup.specs.Indexed.{Indexed};
+ghost use Rattle.complexes.specs.Meaning.{complexOf};
+ghost use Rattle.lent_lists.specs.Held.{complexIn, Counted, Held, Roomy, EditsHeld};
+
+// How many simplices each list has.
+pub struct Counts {
+    pub edges: usize,
+    pub triangles: usize,
+    pub tetrahedra: usize,
+}
+
+impl Counts {
+    // Of lists that nothing was read into.
+    pub fn none() -> Self {
+        Self {
+            edges: 0,
+            triangles: 0,
+            tetrahedra: 0,
+        }
+    }
+
+    // How many simplices of a dimension there are in a complex of v vertices.
+    pub fn of(self, v: u16, dim: usize) -> usize
+        ensures { λ r. ⌜ ((X : format.Complex) → Counted X v self → r ≡ length (simplices X dim)) ⌝ }
+    {
+        if dim == 0 {
+            return v as usize;
+        }
+        if dim == 1 {
+            return self.edges;
+        }
+        if dim == 2 {
+            return self.triangles;
+        }
+        if dim == 3 {
+            return self.tetrahedra;
+        }
+        0
+    }
+}
+
+// The complex that the numbers stand for.
+pub fn complex_of(
+    v: u16,
+    counts: Counts,
+    edges: &[u64],
+    triangles: &[u64],
+    tetrahedra: &[u64],
+) -> Complex
+    requires { ⌜ Roomy counts (now edges) (now triangles) (now tetrahedra) ⌝ }
+    ensures { λ r. ⌜ complexOf r ≡ complexIn v counts (now (edges .entry)) (now (triangles .entry)) (now (tetrahedra .entry)) ⌝ }
+{
+    let edges = lookup::list_of(edges, counts.edges, 2);
+    let triangles = lookup::list_of(triangles, counts.triangles, 3);
+    let tetrahedra = lookup::list_of(tetrahedra, counts.tetrahedra, 4);
+    Complex {
+        v,
+        edges,
+        triangles,
+        tetrahedra,
+    }
+}
+
+// Makes every bucket empty.
+fn forget(first: &mut [u16])
+    ensures { λ _. ⌜ now (first .exit) ≡ replicate (length (now (first .entry))) 0 ⌝ }
+{
+    let n = first.len();
+    let mut i = 0;
+    while i < n {
+        first[i] = 0;
+        i += 1;
+    }
+}
+
+// Enters a list where another one was entered, and says how many simplices it has.
+fn renew(list: SimplexList, keys: &mut [u64], first: &mut [u16], next: &mut [u16]) -> usize
+    requires { ⌜ (512 ≤ length (now keys)) × (512 ≤ length (now next)) × (length (now first) ≡ buckets) ⌝ }
+    ensures { λ n. ⌜ Indexed (simplicesOf list) (now (keys .exit)) (now (first .exit)) (now (next .exit)) n ⌝ }
+{
+    forget(first);
+    lookup::index(list, keys, first, next)
+}
+
+// A verdict on a job's edits; and beside it, which count only where nothing was refused, how many simplices each list has,
+// and the marks after them all.
+pub struct Edited {
+    pub verdict: Verdict,
+    pub counts: Counts,
+    pub marks: Marks,
+}
+
+// Takes the edits from a place to the end of the file. Where there are none, the lists stay as they are; else they are made
+// a complex, and what the edits leave of it is entered anew. The marks are of the simplices of dimension `dim`.
+pub fn take_edits(
+    job: &[u8],
+    at: usize,
+    v: u16,
+    counts: Counts,
+    marks: Marks,
+    dim: usize,
+    e_keys: &mut [u64],
+    e_first: &mut [u16],
+    e_next: &mut [u16],
+    t_keys: &mut [u64],
+    t_first: &mut [u16],
+    t_next: &mut [u16],
+    s_keys: &mut [u64],
+) -> Edited
+    requires { ⌜ Held v counts (now «e_keys») (now «e_first») (now «e_next») (now «t_keys») (now «t_first») (now «t_next») (now «s_keys») ⌝ }
+    ensures { λ r. ⌜ EditsHeld (now (job .entry)) at dim v (complexIn v counts (now («e_keys» .entry)) (now («t_keys» .entry)) (now («s_keys» .entry))) marks (now («e_keys» .exit)) (now («e_first» .exit)) (now («e_next» .exit)) (now («t_keys» .exit)) (now («t_first» .exit)) (now («t_next» .exit)) (now («s_keys» .exit)) r ⌝ }
+{
+    if job.len() <= at {
+        return Edited {
+            verdict: Verdict::Fine,
+            counts,
+            marks,
+        };
+    }
+    let complex = complex_of(v, counts, e_keys, t_keys, s_keys);
+    let edited = edits::read_edits(job, at, complex, marks, dim);
+    let verdict = edited.verdict;
+    if let Verdict::Refused(number, place) = verdict {
+        return Edited {
+            verdict: Verdict::Refused(number, place),
+            counts,
+            marks,
+        };
+    }
+    let after = edited.complex;
+    let marks_after = edited.marks;
+    let edges = renew(after.edges, e_keys, e_first, e_next);
+    let triangles = renew(after.triangles, t_keys, t_first, t_next);
+    let mut s_first = [0u16; BUCKETS];
+    let mut s_next = [0u16; SimplexList::LIMIT];
+    let tetrahedra = lookup::index(after.tetrahedra, s_keys, &mut s_first, &mut s_next);
+    Edited {
+        verdict: Verdict::Fine,
+        counts: Counts {
+            edges,
+            triangles,
+            tetrahedra,
+        },
+        marks: marks_after,
+    }
+}
