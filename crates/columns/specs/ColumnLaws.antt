@@ -3,19 +3,18 @@
 use Prim.Native.Nat.{ℕ, zero, suc, _+_, _-_, _*_, _/_, _%_, _^_, _≤_, _<_}
 use mathlib.Core.Path.{_≡_, refl, sym, ap, ap₂, _∙_, fun-ext}
 use mathlib.Core.Logic.{_⊎_, inl, inr, ⊎-elim, _≢_}
-use mathlib.Core.Bool.{true, false, true≢false, false≢true}
+use mathlib.Core.Bool.{false}
 use mathlib.Core.List.{List, [], _∷_}
-use native.Mathlib.Nat.{div-eq-of-lt, div-one, div-self, mod-lt, mul-mod-left, pow-suc}
-use native.Mathlib.Numerals.{one-add}
+use native.Mathlib.Nat.{div-eq-of-lt, div-self, mod-lt, mul-mod-left, pow-suc}
 use native.Mathlib.Omega.{arith}
 use native.Mathlib.Decide.{ℕ-discrete, decLt}
 use lib.Dec.{eqb}
 use lib.ListN.{length, getD, set, replicate, List·getD-eq-default, length-set}
-use lib.Seq.{getD-set-same, getD-set-other, set-out, ext-getD}
-use lib.Pow.{pow-pos, pow-add, pow-lt, shl-shr, shr-shr}
+use lib.Seq.{getD-set-same, getD-set-other}
+use lib.Pow.{pow-pos, pow-add, pow-lt, shl-shr}
 use lib.Bits.{bitXor, xor-shr, xor-mod, xor-zero-r}
 use borrow.Author.Tests.{eq-eqb, ne-eqb}
-use Rattle.chains.specs.Chain.{Chain, differ, _⊕_, empty, unit, Under}
+use Rattle.chains.specs.Chain.{differ, _⊕_, empty, unit, Under}
 use Rattle.chains.specs.Sum.{differ-false}
 use Rattle.columns.specs.Column.{bit, bitAt, chainOf, xorBytes, flipped}
 
@@ -114,10 +113,6 @@ pub length-flipped : (l : List ℕ) (i : ℕ) → length (flipped l i) ≡ lengt
 unfolding flipped
 length-flipped l i = length-set l (i / 8) _
 
-pub flipped-past : (l : List ℕ) (i : ℕ) → 8 * length l ≤ i → flipped l i ≡ l
-unfolding flipped
-flipped-past l i h = set-out l (i / 8) _ (omega arith)
-
 -- in one byte, ranks are the same where their bits are
 same-bit : (i j : ℕ) → i / 8 ≡ j / 8 → eqb (i % 8) (j % 8) ≡ eqb i j
 same-bit i j e = elim (ℕ-discrete i j) [
@@ -146,46 +141,3 @@ chainOf-flipped l i h = fun-ext (λ j. elim (ℕ-discrete (j / 8) (i / 8)) [ yes
         ap (λ (x : ℕ). bit x (j % 8)) (getD-set-other l (i / 8) (j / 8) new 0 n)
         ∙ sym (differ-false (bit (getD l (j / 8) 0) (j % 8)))
         ∙ ap (differ (bit (getD l (j / 8) 0) (j % 8))) (sym (ne-eqb i j (λ e. n (ap (λ (q : ℕ). q / 8) (sym e)))))
-
--- ---- a column is known by its chain
-
--- the test for an odd number tells even from odd
-same-odd : (u w : ℕ) → eqb (u % 2) 1 ≡ eqb (w % 2) 1 → u % 2 ≡ w % 2
-same-odd u w e = go (u % 2) (w % 2) (parity u) (parity w) e
-  where
-    go : (x y : ℕ) → (x ≡ 0) ⊎ (x ≡ 1) → (y ≡ 0) ⊎ (y ≡ 1) → eqb x 1 ≡ eqb y 1 → x ≡ y
-    go x y (inl p) (inl q) t = p ∙ sym q
-    go x y (inl p) (inr q) t = absurd (false≢true (rw (p, q) at t))
-    go x y (inr p) (inl q) t = absurd (true≢false (rw (p, q) at t))
-    go x y (inr p) (inr q) t = p ∙ sym q
-
--- two numbers of n bits are the same where each of their bits is
-same-bits : (n x y : ℕ) → x < 2 ^ n → y < 2 ^ n → ((k : ℕ) → k < n → bit x k ≡ bit y k) → x ≡ y
-unfolding bit
-same-bits zero x y hx hy h = omega arith
-same-bits (suc n) x y hx hy h =
-    let high : x / 2 ≡ y / 2 =
-    same-bits n (x / 2) (y / 2) (half x hx) (half y hy) (λ k l. up x k ∙ h (suc k) (omega arith) ∙ sym (up y k)) in
-    let low : x % 2 ≡ y % 2 = odd x y (h 0 (omega arith)) in
-    omega arith
-  where
-    half : (z : ℕ) → z < 2 ^ suc n → z / 2 < 2 ^ n
-    half z l = let e : 2 ^ suc n ≡ 2 ^ n * 2 = pow-suc 2 n in omega arith
-
-    up : (z k : ℕ) → eqb (z / 2 / 2 ^ k % 2) 1 ≡ eqb (z / 2 ^ suc k % 2) 1
-    up z k = ap (λ (q : ℕ). eqb (q % 2) 1) (shr-shr z 1 k ∙ ap (λ (m : ℕ). z / 2 ^ m) (one-add k))
-
-    odd : (u w : ℕ) → eqb (u / 2 ^ 0 % 2) 1 ≡ eqb (w / 2 ^ 0 % 2) 1 → u % 2 ≡ w % 2
-    odd u w e = same-odd u w (sym (ap (λ (q : ℕ). eqb (q % 2) 1) (div-one u)) ∙ e ∙ ap (λ (q : ℕ). eqb (q % 2) 1) (div-one w))
-
--- equal chains, equal columns: the bytes of both are below 256, as those of a lent slice are
-pub chainOf-inj : (a b : List ℕ) → length a ≡ length b → ((j : ℕ) → getD a j 0 < 256) → ((j : ℕ) → getD b j 0 < 256)
-    → chainOf a ≡ chainOf b → a ≡ b
-unfolding bitAt
-chainOf-inj a b l ha hb e = ext-getD 0 a b l (λ j h. same-bits 8 (getD a j 0) (getD b j 0) (ha j) (hb j) (λ k m. at j k m))
-  where
-    at : (j k : ℕ) → k < 8 → bit (getD a j 0) k ≡ bit (getD b j 0) k
-    at j k m =
-        let q : (8 * j + k) / 8 ≡ j = omega arith in
-        let r : (8 * j + k) % 8 ≡ k = omega arith in
-        rw (q, r) at (ap (λ (c : Chain). c (8 * j + k)) e)

@@ -3,9 +3,9 @@
 -- Both go through the rows from the top down.
 use Prim.Native.Nat.{ℕ, zero, suc}
 use mathlib.Core.Path.{_≡_}
-use mathlib.Core.Bool.{Bool, true, false, not, _&&_}
+use mathlib.Core.Bool.{Bool, true, false, not, _&&_, cond}
 use mathlib.Core.List.{List}
-use Rattle.chains.specs.Chain.{Chain, _⊕_, only}
+use Rattle.chains.specs.Chain.{Chain, only}
 use Rattle.columns.specs.Column.{xorBytes}
 use Rattle.columns.specs.Slot.{chainR, chainV, slot, occupiedAt, storeSlot}
 use Rattle.columns.specs.declared.Highest.{Highest}
@@ -15,14 +15,9 @@ use Rattle.columns.specs.declared.Highest.the-variants.{At, Nothing}
 abbrev pub heldAt : ℕ → ℕ → List ℕ → Bool
 heldAt h r cur = chainR h cur r
 
--- the first where the test holds, else the second
-abbrev pub pick : {X : Type 0} → Bool → X → X → X
-pick true x y = x
-pick false x y = y
-
 -- one row: the slot is added where cur holds the row and the slot is occupied
 unfoldable pub redRow : ℕ → List ℕ → ℕ → List ℕ → List ℕ
-redRow h work r cur = pick (heldAt h r cur && occupiedAt h work r) (xorBytes cur (slot h work r)) cur
+redRow h work r cur = cond (heldAt h r cur && occupiedAt h work r) (xorBytes cur (slot h work r)) cur
 
 -- the rows below r, from the top down
 unfoldable pub redBytes : ℕ → List ℕ → ℕ → List ℕ → List ℕ
@@ -41,7 +36,7 @@ pub record Settled : Type 0 where
 -- the rows below r, from the top down, up to the first row at which cur is stuck
 unfoldable pub settled : ℕ → List ℕ → ℕ → List ℕ → Settled
 settled h work zero cur = record { at = Nothing; cur = cur }
-settled h work (suc r) cur = pick (stuckAt h work r cur) (record { at = At r; cur = cur }) (settled h work r (redRow h work r cur))
+settled h work (suc r) cur = cond (stuckAt h work r cur) (record { at = At r; cur = cur }) (settled h work r (redRow h work r cur))
 
 -- how many rows are left below the one at which a reduction settled
 abbrev pub rowsLeft : Highest → ℕ
@@ -63,7 +58,7 @@ pub record Inserts (h : ℕ) (work : List ℕ) (rows : ℕ) (cur : List ℕ) (an
   pub settles : Settles h work rows cur answer left
   pub stored : after ≡ storedAt h work answer left
 
--- ---- the same on chains
+-- ---- the slots as chains
 
 -- the slots as two tables of chains: the reduced columns, and the sets of columns that they are the sums of
 abbrev pub slotRows : ℕ → List ℕ → ℕ → Chain
@@ -82,16 +77,6 @@ keptRows h work = occupiedOnly (slotRows h work) (slotRows h work)
 
 abbrev pub keptColumns : ℕ → List ℕ → ℕ → Chain
 keptColumns h work = occupiedOnly (slotRows h work) (slotColumns h work)
-
--- c reduced by the slots R, over the rows below r
-unfoldable pub red : (ℕ → Chain) → ℕ → Chain → Chain
-red R zero c = c
-red R (suc r) c = red R r (c ⊕ only (c r) (R r))
-
--- what is collected in v on the way: the columns W of each slot that is added
-unfoldable pub gather : (ℕ → Chain) → (ℕ → Chain) → ℕ → Chain → Chain → Chain
-gather R W zero c v = v
-gather R W (suc r) c v = gather R W r (c ⊕ only (c r) (R r)) (v ⊕ only (c r) (W r))
 
 -- What holds where a reduction has settled, if P is kept on the way: it is through with all rows, or it is stuck at a
 -- row that is held and whose slot is vacant.

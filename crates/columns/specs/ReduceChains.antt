@@ -1,32 +1,18 @@
 -- The reduction on chains. The halves of a sum are sums, so each row does to the two chains in hand what it does to the
 -- bytes: at a row that is held and whose slot is occupied, the slot's chains are added.
-use Prim.Native.Nat.{ℕ, zero, suc, _*_, _≤_, _<_}
-use mathlib.Core.Path.{_≡_, refl, sym, ap, ap₂, _∙_, subst, subst₂}
-use mathlib.Core.Bool.{Bool, true, false, _&&_}
+use Prim.Native.Nat.{ℕ, suc, _*_, _≤_, _<_}
+use mathlib.Core.Path.{_≡_, refl, sym, ap, _∙_, subst, subst₂}
+use mathlib.Core.Bool.{Bool, true, false}
 use mathlib.Core.List.{List}
 use native.Mathlib.Omega.{arith}
 use lib.ListN.{length}
 use Rattle.chains.specs.Chain.{Chain, _⊕_, empty, only}
-use Rattle.chains.specs.Sum.{sum-empty}
-use Rattle.columns.specs.Column.{xorBytes}
 use Rattle.columns.specs.ColumnLaws.{length-xor}
 use Rattle.columns.specs.Slot.{roomOf, chainR, chainV, slot, occupiedAt}
 use Rattle.columns.specs.SlotLaws.{length-slot, chainR-xor, chainV-xor}
-use Rattle.columns.specs.Reduce.{heldAt, pick, redRow, redBytes, Settles, slotRows, slotColumns, occupiedOnly, keptRows, keptColumns, red, gather, Ends}
-use Rattle.columns.specs.ReduceLaws.{length-row, row-add, row-not-held, row-vacant, unstuck-occupied, stuck-held, stuck-vacant, by-rows, by-settling}
+use Rattle.columns.specs.Reduce.{heldAt, redRow, redBytes, Settles, slotRows, slotColumns, occupiedOnly, keptRows, keptColumns, Ends}
+use Rattle.columns.specs.ReduceLaws.{row-add, row-not-held, row-vacant, unstuck-occupied, stuck-held, stuck-vacant, by-rows, by-settling}
 use Rattle.columns.specs.declared.Highest.{Highest}
-
--- one half of the pair, over which sums are sums of chains, follows a row on chains
-row-chain : (half : List ℕ → Chain) (h : ℕ) (work : List ℕ) (r : ℕ) (cur : List ℕ)
-    → half (xorBytes cur (slot h work r)) ≡ half cur ⊕ half (slot h work r)
-    → half (redRow h work r cur) ≡ half cur ⊕ only (heldAt h r cur) (only (occupiedAt h work r) (half (slot h work r)))
-unfolding redRow
-row-chain half h work r cur sum = go (heldAt h r cur) (occupiedAt h work r)
-  where
-    go : (a b : Bool) → half (pick (a && b) (xorBytes cur (slot h work r)) cur) ≡ half cur ⊕ only a (only b (half (slot h work r)))
-    go true true = sum
-    go true false = sym (sum-empty (half cur))
-    go false b = sym (sum-empty (half cur))
 
 -- ---- what counts of a slot: all that it holds, where it holds its own row, and else nothing
 
@@ -46,33 +32,6 @@ module _ (R : ℕ → Chain) (r : ℕ) where
       go false e = refl
 
 module _ (h : ℕ) (work : List ℕ) (room : roomOf h ≤ length work) where
-  -- ---- one row
-
-  module _ (r : ℕ) (cur : List ℕ) (low : r < 8 * h) (whole : length cur ≡ 2 * h) where
-    pub chainR-row : chainR h (redRow h work r cur) ≡ chainR h cur ⊕ only (heldAt h r cur) (keptRows h work r)
-    chainR-row = row-chain (chainR h) h work r cur (chainR-xor h cur (slot h work r) whole (length-slot h work r low room))
-
-    pub chainV-row : chainV h (redRow h work r cur) ≡ chainV h cur ⊕ only (heldAt h r cur) (keptColumns h work r)
-    chainV-row = row-chain (chainV h) h work r cur (chainV-xor h cur (slot h work r) whole (length-slot h work r low room))
-
-  -- ---- all rows: the first half is reduced, and the second gathers the columns of the slots that are added
-
-  pub chainR-red : (n : ℕ) (cur : List ℕ) → n ≤ 8 * h → length cur ≡ 2 * h
-      → chainR h (redBytes h work n cur) ≡ red (keptRows h work) n (chainR h cur)
-  unfolding redBytes red
-  chainR-red zero cur l whole = refl
-  chainR-red (suc n) cur l whole =
-      chainR-red n (redRow h work n cur) (omega arith) (length-row h work n cur ∙ whole)
-      ∙ ap (red (keptRows h work) n) (chainR-row n cur l whole)
-
-  pub chainV-red : (n : ℕ) (cur : List ℕ) → n ≤ 8 * h → length cur ≡ 2 * h
-      → chainV h (redBytes h work n cur) ≡ gather (keptRows h work) (keptColumns h work) n (chainR h cur) (chainV h cur)
-  unfolding redBytes gather
-  chainV-red zero cur l whole = refl
-  chainV-red (suc n) cur l whole =
-      chainV-red n (redRow h work n cur) (omega arith) (length-row h work n cur ∙ whole)
-      ∙ ap₂ (gather (keptRows h work) (keptColumns h work) n) (chainR-row n cur l whole) (chainV-row n cur l whole)
-
   -- ---- what is kept by the rows: P speaks of the rows that are left and of the two chains in hand
 
   module _ (P : ℕ → Chain → Chain → Type 0) (n : ℕ) (low : n ≤ 8 * h)

@@ -2,7 +2,7 @@
 -- and is kept by each row holds at the bottom.
 use Prim.Native.Nat.{ℕ, zero, suc, _≤_, _<_}
 use mathlib.Core.Path.{_≡_, refl, sym, ap, _∙_, subst}
-use mathlib.Core.Bool.{Bool, true, false, not, _&&_, false≢true}
+use mathlib.Core.Bool.{Bool, true, false, not, _&&_, cond, false≢true}
 use mathlib.Core.List.{List}
 use native.Mathlib.Decide.{le-ind}
 use native.Mathlib.Omega.{arith}
@@ -11,7 +11,7 @@ use Rattle.columns.specs.Column.{xorBytes}
 use Rattle.columns.specs.ColumnLaws.{length-xor}
 use Rattle.chains.specs.Chain.{Under}
 use Rattle.columns.specs.Slot.{chainR, slot, occupiedAt}
-use Rattle.columns.specs.Reduce.{heldAt, pick, redRow, redBytes, stuckAt, Settled, settled, rowsLeft, Inserts}
+use Rattle.columns.specs.Reduce.{heldAt, redRow, redBytes, stuckAt, Settled, settled, rowsLeft, Inserts}
 use Rattle.columns.specs.declared.Highest.{Highest}
 use Rattle.columns.specs.declared.Highest.the-variants.{At, Nothing}
 
@@ -83,7 +83,7 @@ module _ (h : ℕ) (work : List ℕ) (r : ℕ) (cur : List ℕ) where
   unfolding redRow
   length-row = go (heldAt h r cur && occupiedAt h work r)
     where
-      go : (b : Bool) → length (pick b (xorBytes cur (slot h work r)) cur) ≡ length cur
+      go : (b : Bool) → length (cond b (xorBytes cur (slot h work r)) cur) ≡ length cur
       go true = length-xor cur (slot h work r)
       go false = refl
 
@@ -97,19 +97,6 @@ module _ (h : ℕ) (work : List ℕ) where
   by-rows P zero cur step top = top
   by-rows P (suc n) cur step top =
       by-rows P n (redRow h work n cur) (λ r c l. step r c (omega arith)) (step n cur (omega arith) top)
-
-  pub length-red : (n : ℕ) (cur : List ℕ) → length (redBytes h work n cur) ≡ length cur
-  length-red n cur = by-rows (λ r c. length c ≡ length cur) n cur (λ r c l e. length-row h work r c ∙ e) refl
-
-  -- rows that are not held are passed over
-  pub red-skip : (k n : ℕ) (cur : List ℕ) → k ≤ n → ((j : ℕ) → k ≤ j → j < n → heldAt h j cur ≡ false)
-      → redBytes h work n cur ≡ redBytes h work k cur
-  unfolding redBytes
-  red-skip k n cur l none =
-      le-ind (λ (m : ℕ). ((j : ℕ) → k ≤ j → j < m → heldAt h j cur ≡ false) → redBytes h work m cur ≡ redBytes h work k cur)
-      (λ q. refl)
-      (λ m l ih q. ap (redBytes h work m) (row-not-held h work m cur (q m l (omega arith))) ∙ ih (λ j a b. q j a (omega arith)))
-      n l none
 
   -- ---- up to the first row that is stuck
 

@@ -26,15 +26,12 @@ chainR h c = chainOf (halfR h c)
 abbrev pub chainV : ℕ → List ℕ → Chain
 chainV h c = chainOf (halfV h c)
 
--- the bytes of slot r, and its halves
+-- the bytes of slot r, and its first half
 unfoldable pub slot : ℕ → List ℕ → ℕ → List ℕ
 slot h work r = take (2 * h) (drop (r * (2 * h)) work)
 
 abbrev pub slotR : ℕ → List ℕ → ℕ → List ℕ
 slotR h work r = halfR h (slot h work r)
-
-abbrev pub slotV : ℕ → List ℕ → ℕ → List ℕ
-slotV h work r = halfV h (slot h work r)
 
 -- a slot is occupied when its reduced column holds the slot's own rank
 abbrev pub occupiedAt : ℕ → List ℕ → ℕ → Bool

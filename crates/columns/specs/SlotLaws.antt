@@ -9,12 +9,12 @@ use native.Mathlib.Nat.{mul-le-mul-right, suc-mul, suc-add, zero-add, le-trans, 
 use native.Mathlib.Omega.{arith}
 use native.Mathlib.Decide.{decLt}
 use lib.ListN.{length, getD, take, drop, length-drop}
-use lib.Seq.{length-take-le, take-nil, getD-take, getD-drop, getD-set-same, getD-set-other, take-take, drop-drop, take-all, length-paste, take-paste, drop-paste, take-at, drop-at}
+use lib.Seq.{length-take-le, take-nil, getD-take, getD-drop, getD-set-same, getD-set-other, take-take, drop-drop, take-all, take-paste, drop-paste, take-at, drop-at}
 use lib.Bits.{bitXor}
 use Rattle.chains.specs.Chain.{_⊕_}
 use Rattle.columns.specs.Column.{bit, bitAt, chainOf, xorBytes}
 use Rattle.columns.specs.ColumnLaws.{bit-zero, chainOf-xor}
-use Rattle.columns.specs.Slot.{roomOf, halfR, halfV, chainR, chainV, slot, slotR, slotV, occupiedAt, vacated, storeSlot}
+use Rattle.columns.specs.Slot.{roomOf, halfR, halfV, chainR, chainV, slot, occupiedAt, vacated, storeSlot}
 
 -- ---- where slots lie
 
@@ -51,20 +51,6 @@ same-rest to k m a b l e =
     ∙ ap (λ (t : List ℕ). take m (drop (k - to) t)) e
     ∙ ap (take m) (drop-drop (k - to) to b) ∙ ap (λ (n : ℕ). take m (drop n b)) far
 
--- the halves, read off the work memory itself
-pub slotR-is : (h : ℕ) (work : List ℕ) (r : ℕ) → slotR h work r ≡ take h (drop (r * (2 * h)) work)
-unfolding halfR slot
-slotR-is h work r = take-take h (2 * h) (drop (r * (2 * h)) work) (omega arith)
-
-pub slotV-is : (h : ℕ) (work : List ℕ) (r : ℕ) → slotV h work r ≡ take h (drop (r * (2 * h) + h) work)
-unfolding halfV slot
-slotV-is h work r =
-    let two : 2 * h ≡ h + h = omega arith in
-    ap (λ (n : ℕ). take h (drop h (take n (drop (r * (2 * h)) work)))) two
-    ∙ ap (take h) (drop-take h h (drop (r * (2 * h)) work))
-    ∙ take-take h h _ (omega arith)
-    ∙ ap (take h) (drop-drop h (r * (2 * h)) work)
-
 -- ---- lengths
 
 pub length-halfR : (h : ℕ) (c : List ℕ) → 2 * h ≤ length c → length (halfR h c) ≡ h
@@ -89,10 +75,6 @@ module _ (h : ℕ) (work : List ℕ) (r : ℕ) (low : r < 8 * h) (room : roomOf 
   module _ (cur : List ℕ) (whole : length cur ≡ 2 * h) where
     at : r * (2 * h) ≤ length work
     at = le-trans (le-add-right _ _) fits
-
-    pub length-stored : length (storeSlot h work r cur) ≡ length work
-    unfolding storeSlot
-    length-stored = length-paste work (r * (2 * h)) cur (2 * h) fits (le-of-eq (sym whole))
 
     -- the slot holds what was stored
     pub slot-stored : slot h (storeSlot h work r cur) r ≡ cur

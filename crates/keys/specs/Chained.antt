@@ -1,8 +1,8 @@
 -- The look-up of a key without going through all keys: each bucket leads to its last key, each key to the one before it in
 -- the same bucket. A key that is met last is the last of its kind, so the answer is stated without buckets.
-use Prim.Native.Nat.{ℕ, zero, suc, _+_, _-_, _%_, _≤_, _<_}
+use Prim.Native.Nat.{ℕ, zero, suc, _%_, _≤_, _<_}
 use mathlib.Core.Path.{_≡_, refl, sym, ap, ap₂, _∙_, subst}
-use mathlib.Core.Bool.{Bool, true, false}
+use mathlib.Core.Bool.{Bool, true, false, cond}
 use mathlib.Core.List.{List}
 use native.Mathlib.Omega.{arith}
 use lib.Dec.{eqb}
@@ -11,14 +11,10 @@ use lib.Seq.{getD-set-same, getD-set-other}
 use native.Mathlib.Decide.{ℕ-discrete}
 use borrow.Author.Tests.{eq-eqb, ne-eqb}
 
-abbrev pub pick : Bool → ℕ → ℕ → ℕ
-pick true a b = a
-pick false a b = b
-
 -- one more than the last place below n whose key passes the test, 0 where none does
 unfoldable pub lastBelow : (ℕ → Bool) → List ℕ → ℕ → ℕ
 lastBelow p l zero = zero
-lastBelow p l (suc n) = pick (p (getD l n 0)) (suc n) (lastBelow p l n)
+lastBelow p l (suc n) = cond (p (getD l n 0)) (suc n) (lastBelow p l n)
 
 abbrev pub buckets : ℕ
 buckets = 1019
@@ -43,11 +39,11 @@ pub record Linked (keys keys′ first′ next′ : List ℕ) (n key : ℕ) : Typ
 
 pub last-hit : (p : ℕ → Bool) (l : List ℕ) (n : ℕ) → p (getD l n 0) ≡ true → lastBelow p l (suc n) ≡ suc n
 unfolding lastBelow
-last-hit p l n e = ap (λ (b : Bool). pick b (suc n) (lastBelow p l n)) e
+last-hit p l n e = ap (λ (b : Bool). cond b (suc n) (lastBelow p l n)) e
 
 pub last-miss : (p : ℕ → Bool) (l : List ℕ) (n : ℕ) → p (getD l n 0) ≡ false → lastBelow p l (suc n) ≡ lastBelow p l n
 unfolding lastBelow
-last-miss p l n e = ap (λ (b : Bool). pick b (suc n) (lastBelow p l n)) e
+last-miss p l n e = ap (λ (b : Bool). cond b (suc n) (lastBelow p l n)) e
 
 pub last-within : (p : ℕ → Bool) (l : List ℕ) (n : ℕ) → lastBelow p l n ≤ n
 unfolding lastBelow
@@ -102,7 +98,7 @@ pub last-set : (p : ℕ → Bool) (l : List ℕ) (n key m : ℕ) → m ≤ n →
 unfolding lastBelow
 last-set p l n key zero h = refl
 last-set p l n key (suc m) h =
-    ap₂ (λ (k b : ℕ). pick (p k) (suc m) b) (getD-set-other l n m key 0 (λ e. omega arith)) (last-set p l n key m (omega arith))
+    ap₂ (λ (k b : ℕ). cond (p k) (suc m) b) (getD-set-other l n m key 0 (λ e. omega arith)) (last-set p l n key m (omega arith))
 
 -- the chains with one key more: its bucket leads to it, and it leads where the bucket led
 module _ (keys first next : List ℕ) (n key : ℕ) (c : Chained keys first next n) (room : n < length keys) (link : n < length next) where

@@ -47,11 +47,6 @@ digits-own (a ∷ l) (more lt d) =
     let high : (a + digit * number l) / digit ≡ number l = omega arith in
     ap₂ (λ (x : ℕ) (y : List ℕ). x ∷ y) low (ap (digitsOf (length l)) high ∙ digits-own l d)
 
-pub length-digits : (width k : ℕ) → length (digitsOf width k) ≡ width
-unfolding digitsOf
-length-digits zero k = refl
-length-digits (suc w) k = ap suc (length-digits w (k / digit))
-
 -- at most four digits, written out
 pub number-four : (l : List ℕ) → length l ≤ 4
     → getD l 0 0 + digit * (getD l 1 0 + digit * (getD l 2 0 + digit * getD l 3 0)) ≡ number l

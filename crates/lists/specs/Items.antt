@@ -1,11 +1,10 @@
 -- Laws of the simplices of a list, item by item. They hold since `simplicesOf` reads each item by itself.
-use Prim.Native.Nat.{ℕ, suc, _+_, _<_, min}
-use native.Mathlib.Omega.{arith}
+use Prim.Native.Nat.{ℕ, _+_, _<_, min}
 use native.Mathlib.Numerals.{add-one}
 use mathlib.Core.Path.{_≡_, sym, ap, _∙_}
 use mathlib.Core.List.{List, [], _∷_, _++_, map, map-append}
-use lib.ListN.{length, take, drop, set, getD, length-take, length-map, List·getD-map}
-use lib.Seq.{drop-cons, getD-take, take-suc-set}
+use lib.ListN.{length, take, set, getD, length-take, length-map, List·getD-map}
+use lib.Seq.{getD-take, take-suc-set}
 use Rattle.lists.specs.Meaning.{none, verticesOf, simplicesOf}
 use Rattle.lists.specs.declared.Simplex.{Simplex}
 use Rattle.lists.specs.declared.SimplexList.{SimplexList}
@@ -26,12 +25,6 @@ module _ (l : SimplexList) where
   simplex-at i h =
       List·getD-map verticesOf (take (l .count) (l .items)) i none ∙
       ap verticesOf (getD-take (l .count) (l .items) i none h)
-
-  -- the simplices from a place on begin with the item that stands there
-  pub drop-simplices : (i : ℕ) → i < length (simplicesOf l) → drop i (simplicesOf l) ≡ verticesOf (getD (l .items) i none) ∷ drop (suc i) (simplicesOf l)
-  drop-simplices i h =
-      drop-cons (simplicesOf l) i (verticesOf none) h ∙
-      ap (λ s. s ∷ drop (suc i) (simplicesOf l)) (simplex-at i (omega (arith, length-simplices)))
 
   -- an item that is written behind the others, and counted
   pub appended : (s : Simplex) → l .count < length (l .items) →

@@ -8,12 +8,12 @@ use lib.ListN.{length, take, getD, set, length-map, length-take, length-set}
 use lib.Seq.{ext-getD, getD-take, take-suc, take-suc-set}
 use Rattle.format.specs.Simplex.{Simplex}
 use Rattle.format.specs.Reading.{without}
-use Rattle.keys.specs.Number.{digit, number, number-none, number-more, Digits, none, more, digitsOf, digits-own, length-digits}
+use Rattle.keys.specs.Number.{digit, number, number-none, number-more, Digits, none, more, digitsOf, digits-own}
 use Rattle.lists.specs.Meaning.{verticesOf, simplicesOf}
 use Rattle.lists.specs.Items.{appended}
 use Rattle.lists.specs.declared.Simplex as code
 use Rattle.lists.specs.declared.SimplexList.{SimplexList}
-use Rattle.lookup.specs.Indexed.{Proper, NumberOf, Keyed, Indexed, Entered}
+use Rattle.lookup.specs.Indexed.{Proper, NumberOf, Keyed, Entered}
 use Rattle.lookup.specs.Numbered.{simplicesIn}
 
 -- a number's digits are the simplex that it is the number of
@@ -134,10 +134,6 @@ module _ (width : ℕ) (keys : List ℕ) where
         ext-getD [] _ l (length-in ∙ keyed .count) (λ i lt.
         let below : i < n = omega (arith, length-in) in
         simplex-in i below ∙ vertices-own (keyed .own i below) (proper .wide i (omega (arith, keyed .count))))
-
-    -- they are all of that width
-    pub wide-in : (i : ℕ) → i < length (simplicesIn width keys n) → length (getD (simplicesIn width keys n) i []) ≡ width
-    wide-in i lt = ap length (simplex-in i (omega (arith, length-in))) ∙ length-digits width (getD keys i 0)
 
   -- the next number is the next simplex
   next-in : (n : ℕ) → n < length keys → simplicesIn width keys (suc n) ≡ simplicesIn width keys n ++ (digitsOf width (getD keys n 0) ∷ [])
