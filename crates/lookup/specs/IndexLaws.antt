@@ -11,11 +11,8 @@ use lib.Dec.{eqb}
 use lib.ListN.{length, take, getD, set, replicate, length-append, length-set, length-replicate, List·getD-append}
 use lib.Seq.{getD-set-same, getD-set-other, getD-append-seam, take-suc, take-all}
 use borrow.Author.Tests.{eq-eqb, eqb-true}
-use Rattle.format.specs.Simplex.{Simplex, Rank, ranked, unlisted, rank, listed, allListed, facets, same}
+use Rattle.format.specs.Simplex.{Simplex, Rank, ranked, unlisted, rank, listed, same}
 use Rattle.format.specs.Listed.{StandsAt, rank-stands, same-equal, true-not-false}
-use Rattle.format.specs.Reading.{without}
-use Rattle.format.specs.Moves.{length-without}
-use Rattle.format.specs.Facets.{facetsBelow, facets-below, facet-missing, facet-found, facets-none}
 use Rattle.format.specs.Lookup.{first-ranked, stands-listed}
 use Rattle.format.specs.Sound.{SoundList, copies, copies-append, unlisted-copies, one-place}
 use Rattle.keys.specs.Chained.{Chained, Linked, lastBelow, buckets, last-within, last-passes, last-none, chained-none}
@@ -189,43 +186,3 @@ indexing-end {l} {size} {keys = keys} {first = first} {next = next} {i = i} a en
     let all : i ≡ size = omega (arith, a .within) in
     subst (Indexed l keys first next) all
     (subst (λ (m : List Simplex). Indexed m keys first next i) (take-all i l (omega (arith, a .whole))) (a .entered))
-
--- THE LOOP over the facets of s: those that are not yet looked up decide.
-pub record Facing (s : Simplex) (keys : List ℕ) (n left : ℕ) : Type 0 where
-  pub within : left ≤ length s
-  pub rest : (l : List Simplex) (width : ℕ) → Proper width l → Keyed l keys n → 0 < width → length s ≡ suc width
-      → allListed (facets s) l ≡ allListed (facetsBelow left s) l
-
-module _ {s : Simplex} {keys : List ℕ} {n : ℕ} where
-  pub facing-start : {left : ℕ} → left ≡ length s → Facing s keys n left
-  facing-start e = record {
-    within = omega arith;
-    rest = λ l width p k some size. ap (λ (m : List Simplex). allListed m l) (facets-below s ∙ ap (λ (i : ℕ). facetsBelow i s) (sym e));
-  }
-
-  module _ {left : ℕ} (a : Facing s keys n left) where
-    pub facing-end : {l : List Simplex} {width : ℕ} → left ≤ 0 → Proper width l → Keyed l keys n → 0 < width → length s ≡ suc width
-        → true ≡ allListed (facets s) l
-    facing-end {l} {width} none p k some size = sym (a .rest l width p k some size ∙ facets-none s l left none)
-
-    -- the facet f without the last vertex that is left, and what its look-up answered
-    module _ (some-left : 0 < left) {f : Simplex} (facet : 1 < length s → f ≡ without (left - 1) s) {r : Rank}
-        (looked : (l : List Simplex) → Proper (length f) l → Keyed l keys n → r ≡ rank f l) where
-      facet-rank : (l : List Simplex) (width : ℕ) → Proper width l → Keyed l keys n → 0 < width → length s ≡ suc width
-          → rank (without (left - 1) s) l ≡ r
-      facet-rank l width p k some size =
-          let e : f ≡ without (left - 1) s = facet (omega arith) in
-          let short : length f ≡ width = ap length e ∙ omega (arith, length-without (left - 1) s (omega (arith, a .within))) in
-          ap (λ (g : Simplex). rank g l) (sym e) ∙ sym (looked l (subst (λ (w : ℕ). Proper w l) (sym short) p) k)
-
-      pub facing-missing : {l : List Simplex} {width : ℕ} → r ≡ unlisted → Proper width l → Keyed l keys n → 0 < width
-          → length s ≡ suc width → false ≡ allListed (facets s) l
-      facing-missing {l} {width} out p k some size =
-          sym (a .rest l width p k some size ∙ facet-missing s l left some-left (facet-rank l width p k some size ∙ out))
-
-      pub facing-on : {i : ℕ} → r ≡ ranked i → Facing s keys n (left - 1)
-      facing-on {i} in-list = record {
-        within = omega (arith, a .within);
-        rest = λ l width p k some size.
-            a .rest l width p k some size ∙ facet-found s l left i some-left (facet-rank l width p k some size ∙ in-list);
-      }

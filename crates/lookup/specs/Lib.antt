@@ -3,3 +3,7 @@ pub mod Indexed
 pub mod IndexLaws
 pub mod Numbered
 pub mod NumberedLaws
+-- simplices by the ranks of their facets
+pub mod Sides
+pub mod SidesLaws
+pub mod EdgeSides

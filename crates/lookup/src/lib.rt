@@ -2,16 +2,18 @@
 // (crate `keys`), so that neither a list is gone through nor copied.
 ghost use mathlib.Core.Path.{_≡_};
 ghost use mathlib.Core.List.{List};
-ghost use Prim.Native.Nat.{ℕ, suc, _≤_, _<_};
+ghost use Prim.Native.Nat.{_-_, _≤_, _<_};
 ghost use lib.ListN.{length};
-ghost use Rattle.format.specs.Simplex.{rank, facets, allListed};
+ghost use Rattle.format.specs.Simplex.{rank};
 ghost use Rattle.format.specs.Simplex as format;
 ghost use Rattle.lists.specs.Meaning.{verticesOf, simplicesOf, rankOf};
 ghost use Rattle.format.specs.Reading.{without};
+ghost use Rattle.format.specs.Matrix.{Closed};
 ghost use Rattle.keys.specs.Chained.{Chained};
 ghost use Rattle.keys.specs.Number.{digitsOf};
 ghost use Rattle.lookup.specs.Indexed.{NumberOf, Keyed, Proper, Blank, Entered, Indexed};
 ghost use Rattle.lookup.specs.Numbered.{simplicesIn};
+ghost use Rattle.lookup.specs.Sides.{FacetsTold, Sided};
 use lists::Found;
 use lists::Simplex;
 use lists::SimplexList;
@@ -124,18 +126,62 @@ pub fn list_of(keys: &[u64], n: usize, width: usize) -> SimplexList
     list
 }
 
-// Whether every facet of a simplex is in the list whose numbers the first n keys are.
-pub fn facets_listed(keys: &[u64], first: &[u16], next: &[u16], n: usize, s: Simplex) -> bool
+// What looking up the facets of a simplex comes to: their ranks, in one number, or that one of them is not listed.
+pub enum Facets {
+    Ranked(u64),
+    Lacking,
+}
+
+// The ranks of the facets of the simplex of `width` vertices that has a number, in the list whose numbers the first n keys
+// are. They are the digits of one number, in dictionary order: the facet without the last vertex is the lowest.
+pub fn facet_ranks(
+    keys: &[u64],
+    first: &[u16],
+    next: &[u16],
+    n: usize,
+    number: u64,
+    width: usize,
+) -> Facets
     requires { ⌜ Chained (now keys) (now first) (now next) n ⌝ }
-    ensures { λ r. ⌜ ((l : List format.Simplex) (width : ℕ) → Proper width l → Keyed l (now (keys .entry)) n → 0 < width → length (verticesOf s) ≡ suc width → r ≡ allListed (facets (verticesOf s)) l) ⌝ }
+    requires { ⌜ (width ≤ 4) × (n ≤ 65536) ⌝ }
+    ensures { λ r. ⌜ ((s : format.Simplex) → NumberOf s number → length s ≡ width → (faces : List format.Simplex) → Proper (width - 1) faces → Keyed faces (now (keys .entry)) n → FacetsTold faces s r) ⌝ }
 {
-    let mut left = s.size();
-    while 0 < left {
-        left -= 1;
-        let found = find(keys, first, next, n, s.facet(left));
-        if let Found::Missing = found {
-            return false;
+    let mut ranks: u64 = 0;
+    let mut skip = 0;
+    while skip < width {
+        let place = keys::find(keys, first, next, n, facet_number(number, skip));
+        if place == 0 {
+            return Facets::Lacking;
         }
+        ranks = ranks * 65536 + (place - 1) as u64;
+        skip += 1;
     }
-    true
+    Facets::Ranked(ranks)
+}
+
+// The sides of the n simplices of `width` vertices whose numbers the keys are, over the m faces entered. Where one lacks a
+// facet, there are no sides to find.
+pub fn find_sides(
+    face_keys: &[u64],
+    face_first: &[u16],
+    face_next: &[u16],
+    m: usize,
+    keys: &[u64],
+    n: usize,
+    width: usize,
+    sides: &mut [u64],
+)
+    requires { ⌜ Chained (now «face_keys») (now «face_first») (now «face_next») m ⌝ }
+    requires { ⌜ (width ≤ 4) × (m ≤ 65536) × (n ≤ length (now keys)) × (n ≤ length (now sides)) ⌝ }
+    ensures { λ _. ⌜ ((faces l : List format.Simplex) → Proper (width - 1) faces → Keyed faces (now («face_keys» .entry)) m → Proper width l → Keyed l (now (keys .entry)) n → Closed faces l → Sided faces l (now (sides .exit)) n) ⌝ }
+{
+    let mut i = 0;
+    while i < n {
+        let found = facet_ranks(face_keys, face_first, face_next, m, keys[i], width);
+        let Facets::Ranked(ranks) = found else {
+            return;
+        };
+        sides[i] = ranks;
+        i += 1;
+    }
 }
