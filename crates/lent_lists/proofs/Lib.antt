@@ -1,4 +1,4 @@
 -- Laws that this crate's proofs share.
 pub mod Counting
-pub mod Forgetting
 pub mod Editing
+pub mod Holding

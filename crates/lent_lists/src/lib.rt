@@ -1,20 +1,17 @@
-// The lists of a complex in lent arrays: each list is the numbers of its simplices, by rank; edges and triangles, in which
-// facets are looked up, are chained too. A complex by value is made of them for the edits, and for whoever writes a job.
+// The lists of a complex in lent arrays: each list is the numbers of its simplices, by rank, and triangles and tetrahedra have
+// the ranks of their facets beside them, their sides. A complex by value is made of them for the edits, and for whoever writes a
+// job.
 use complexes::Complex;
 use keys::BUCKETS;
 use lists::Marks;
 use lists::SimplexList;
 use lists::Verdict;
 ghost use mathlib.Core.Path.{_≡_};
-ghost use Prim.Native.Nat.{_≤_};
-ghost use lib.ListN.{length, replicate};
+ghost use lib.ListN.{length};
 ghost use Rattle.format.specs.Simplex.{simplices};
 ghost use Rattle.format.specs.Simplex as format;
-ghost use Rattle.lists.specs.Meaning.{simplicesOf};
-ghost use Rattle.keys.specs.Chained.{buckets};
-ghost use Rattle.lookup.specs.Indexed.{Indexed};
 ghost use Rattle.complexes.specs.Meaning.{complexOf};
-ghost use Rattle.lent_lists.specs.Held.{complexIn, Counted, Held, Roomy, EditsHeld};
+ghost use Rattle.lent_lists.specs.Held.{complexIn, Counted, Roomy, Room, HoldsNow, Held, EditsHeld};
 
 // How many simplices each list has.
 pub struct Counts {
@@ -75,25 +72,52 @@ pub fn complex_of(
     }
 }
 
-// Makes every bucket empty.
-fn forget(first: &mut [u16])
-    ensures { λ _. ⌜ now (first .exit) ≡ replicate (length (now (first .entry))) 0 ⌝ }
+// Puts a complex into the arrays: the numbers of its edges (e), triangles (t) and tetrahedra (s), and the sides of the latter.
+fn hold(
+    complex: Complex,
+    e_keys: &mut [u64],
+    t_keys: &mut [u64],
+    s_keys: &mut [u64],
+    t_sides: &mut [u64],
+    s_sides: &mut [u64],
+) -> Counts
+    requires { ⌜ Room (now «e_keys») (now «t_keys») (now «s_keys») (now «t_sides») (now «s_sides») ⌝ }
+    ensures { λ c. ⌜ HoldsNow (complexOf complex) c (now («e_keys» .exit)) (now («t_keys» .exit)) (now («s_keys» .exit)) (now («t_sides» .exit)) (now («s_sides» .exit)) ⌝ }
 {
-    let n = first.len();
-    let mut i = 0;
-    while i < n {
-        first[i] = 0;
-        i += 1;
+    let mut e_first = [0u16; BUCKETS];
+    let mut e_next = [0u16; SimplexList::LIMIT];
+    let edges = lookup::index(complex.edges, e_keys, &mut e_first, &mut e_next);
+    let mut t_first = [0u16; BUCKETS];
+    let mut t_next = [0u16; SimplexList::LIMIT];
+    let triangles = lookup::index(complex.triangles, t_keys, &mut t_first, &mut t_next);
+    let mut s_first = [0u16; BUCKETS];
+    let mut s_next = [0u16; SimplexList::LIMIT];
+    let tetrahedra = lookup::index(complex.tetrahedra, s_keys, &mut s_first, &mut s_next);
+    lookup::find_sides(
+        e_keys,
+        &e_first,
+        &e_next,
+        edges,
+        t_keys,
+        triangles,
+        3,
+        t_sides,
+    );
+    lookup::find_sides(
+        t_keys,
+        &t_first,
+        &t_next,
+        triangles,
+        s_keys,
+        tetrahedra,
+        4,
+        s_sides,
+    );
+    Counts {
+        edges,
+        triangles,
+        tetrahedra,
     }
-}
-
-// Enters a list where another one was entered, and says how many simplices it has.
-fn renew(list: SimplexList, keys: &mut [u64], first: &mut [u16], next: &mut [u16]) -> usize
-    requires { ⌜ (512 ≤ length (now keys)) × (512 ≤ length (now next)) × (length (now first) ≡ buckets) ⌝ }
-    ensures { λ n. ⌜ Indexed (simplicesOf list) (now (keys .exit)) (now (first .exit)) (now (next .exit)) n ⌝ }
-{
-    forget(first);
-    lookup::index(list, keys, first, next)
 }
 
 // A verdict on a job's edits; and beside it, which count only where nothing was refused, how many simplices each list has,
@@ -105,7 +129,7 @@ pub struct Edited {
 }
 
 // Takes the edits from a place to the end of the file. Where there are none, the lists stay as they are; else they are made
-// a complex, and what the edits leave of it is entered anew. The marks are of the simplices of dimension `dim`.
+// a complex, and what the edits leave of it is put in again. The marks are of the simplices of dimension `dim`.
 pub fn take_edits(
     job: &[u8],
     at: usize,
@@ -114,15 +138,13 @@ pub fn take_edits(
     marks: Marks,
     dim: usize,
     e_keys: &mut [u64],
-    e_first: &mut [u16],
-    e_next: &mut [u16],
     t_keys: &mut [u64],
-    t_first: &mut [u16],
-    t_next: &mut [u16],
     s_keys: &mut [u64],
+    t_sides: &mut [u64],
+    s_sides: &mut [u64],
 ) -> Edited
-    requires { ⌜ Held v counts (now «e_keys») (now «e_first») (now «e_next») (now «t_keys») (now «t_first») (now «t_next») (now «s_keys») ⌝ }
-    ensures { λ r. ⌜ EditsHeld (now (job .entry)) at dim v (complexIn v counts (now («e_keys» .entry)) (now («t_keys» .entry)) (now («s_keys» .entry))) marks (now («e_keys» .exit)) (now («e_first» .exit)) (now («e_next» .exit)) (now («t_keys» .exit)) (now («t_first» .exit)) (now («t_next» .exit)) (now («s_keys» .exit)) r ⌝ }
+    requires { ⌜ Held v counts (now «e_keys») (now «t_keys») (now «s_keys») (now «t_sides») (now «s_sides») ⌝ }
+    ensures { λ r. ⌜ EditsHeld (now (job .entry)) at dim v (complexIn v counts (now («e_keys» .entry)) (now («t_keys» .entry)) (now («s_keys» .entry))) marks (now («e_keys» .exit)) (now («t_keys» .exit)) (now («s_keys» .exit)) (now («t_sides» .exit)) (now («s_sides» .exit)) r ⌝ }
 {
     if job.len() <= at {
         return Edited {
@@ -143,18 +165,10 @@ pub fn take_edits(
     }
     let after = edited.complex;
     let marks_after = edited.marks;
-    let edges = renew(after.edges, e_keys, e_first, e_next);
-    let triangles = renew(after.triangles, t_keys, t_first, t_next);
-    let mut s_first = [0u16; BUCKETS];
-    let mut s_next = [0u16; SimplexList::LIMIT];
-    let tetrahedra = lookup::index(after.tetrahedra, s_keys, &mut s_first, &mut s_next);
+    let counts_after = hold(after, e_keys, t_keys, s_keys, t_sides, s_sides);
     Edited {
         verdict: Verdict::Fine,
-        counts: Counts {
-            edges,
-            triangles,
-            tetrahedra,
-        },
+        counts: counts_after,
         marks: marks_after,
     }
 }

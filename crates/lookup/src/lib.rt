@@ -100,7 +100,7 @@ pub fn enter(keys: &mut [u64], first: &mut [u16], next: &mut [u16], n: usize, s:
 // Enters a whole list, and says how many simplices it has.
 pub fn index(list: SimplexList, keys: &mut [u64], first: &mut [u16], next: &mut [u16]) -> usize
     requires { ⌜ Blank (now keys) (now first) (now next) ⌝ }
-    ensures { λ n. ⌜ Indexed (simplicesOf list) (now (keys .exit)) (now (first .exit)) (now (next .exit)) n ⌝ }
+    ensures { λ n. ⌜ Indexed (simplicesOf list) (now (keys .exit)) (now (first .exit)) (now (next .exit)) n × (n ≤ 512) ⌝ }
 {
     let n = lists::least(list.count, SimplexList::LIMIT);
     let mut i = 0;

@@ -64,7 +64,7 @@ same-length-3 : tie.Need-same-length-3 Inv-loop μ-loop
 same-length-3 c = search needs
 
 returns : tie.Need-returns Inv-loop μ-loop
-returns c = indexing-end (c .before .loop .inv) (c .loop-test .left)
+returns c = (indexing-end (c .before .loop .inv) (c .loop-test .left), omega (arith, c .before .before .least .ensures))
 
 pub index-spec : {M : Type 1} → statement M
 index-spec =
