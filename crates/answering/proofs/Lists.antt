@@ -1,7 +1,7 @@
 -- The lists that lent arrays hold, as the matrix that the solver asks for; and that the members of an answer are few enough
 -- for the output.
 use Prim.Native.Nat.{ℕ, zero, suc, _+_, _-_, _≤_, _<_}
-use mathlib.Core.Path.{_≡_, refl, sym, _∙_, ap, subst, subst₂, subst₃}
+use mathlib.Core.Path.{_≡_, refl, sym, _∙_, ap, subst, subst₂}
 use mathlib.Core.Bool.{Bool, true, false, cond}
 use mathlib.Core.List.{List, [], _∷_}
 use native.Mathlib.Omega.{arith}
@@ -16,18 +16,20 @@ use Rattle.format.specs.Sound.{SoundComplex}
 use Rattle.format.specs.Marks.{vertices-once}
 use Rattle.format.specs.Vertices.{length-vertices, vertex-at}
 use Rattle.format.specs.Members.{members-listed, members-few, simplices-sound}
-use Rattle.lookup.specs.Indexed.{Proper, Keyed, Indexed}
+use Rattle.lookup.specs.Indexed.{Proper}
 use Rattle.lookup.specs.IndexLaws.{proper-none, sound-proper}
 use Rattle.lookup.specs.Numbered.{simplicesIn}
+use Rattle.lookup.specs.Sides.{Sided}
+use Rattle.lookup.specs.EdgeSides.{edges-sided}
 use Rattle.lent_lists.specs.Held.{complexIn, Held}
 use Rattle.lent_lists.specs.HeldLaws.{few-simplices}
 use Rattle.lent_lists.specs.declared.Counts.{Counts}
 use Rattle.lists.specs.declared.Marks.{Marks}
-use Rattle.solver.specs.Columns.{RowsIn, MatrixIn}
+use Rattle.solver.specs.Columns.{MatrixIn}
 use Rattle.solver.specs.Solved.{RimTold, no-rim}
 use Rattle.writer.specs.Normal.{list-bytes}
 use Rattle.answers.specs.Meaning.{memberBytes, chainBytes}
-use Rattle.answering.specs.Meaning.{ofDimension, linksOf}
+use Rattle.answering.specs.Meaning.{ofDimension}
 
 -- below the vertices there is no list; below dimension k stands the list of dimension k - 1
 pub lower-none : (X : Complex) (dim : ℕ) → dim ≡ 0 → lower X dim ≡ []
@@ -70,85 +72,66 @@ unfolding simplices
 vertices-are X dim m e is = ap vertexList (is ∙ ap (λ (d : ℕ). length (simplices X d)) e ∙ length-vertices (X .v)) ∙ ap (simplices X) (sym e)
 
 -- THE MATRIX of a dimension's list over the one below it, as the arrays hold it.
-module _ {v : ℕ} {c : Counts} {eKeys eFirst eNext tKeys tFirst tNext sKeys : List ℕ}
-    (held : Held v c eKeys eFirst eNext tKeys tFirst tNext sKeys) where
+module _ {v : ℕ} {c : Counts} {eKeys tKeys sKeys tSides sSides : List ℕ} (held : Held v c eKeys tKeys sKeys tSides sSides) where
   abbrev X : Complex
   X = complexIn v c eKeys tKeys sKeys
 
-  pub rows-in : (dim m : ℕ) → dim ≤ 2 → m ≡ length (simplices X dim)
-      → RowsIn (suc dim) (simplices X dim) (ofDimension dim eKeys tKeys sKeys) (linksOf dim eFirst tFirst) (linksOf dim eNext tNext) m
+  -- the sides of a list are ranks in the one below; those of edges are their own numbers
+  sides-in : (dim n : ℕ) → dim ≤ 2 → n ≡ length (simplices X (suc dim))
+      → Sided (simplices X dim) (simplices X (suc dim)) (ofDimension (suc dim) eKeys tSides sSides) n
   unfolding simplices
-  rows-in zero m le e = record {
-    proper = proper-list X (held .sound) 0;
-    count = e;
-    vertices = λ _. sym (vertices-are X 0 m refl e);
-    indexed = λ lt. absurd (omega arith);
-  }
-  rows-in (suc zero) m le e = record {
-    proper = proper-list X (held .sound) 1;
-    count = e;
-    vertices = λ one. absurd (omega arith);
-    indexed = λ _. subst (Indexed (X .edges) eKeys eFirst eNext) (held .edges .keyed .count ∙ sym e) (held .edges);
-  }
-  rows-in (suc (suc zero)) m le e = record {
-    proper = proper-list X (held .sound) 2;
-    count = e;
-    vertices = λ one. absurd (omega arith);
-    indexed = λ _. subst (Indexed (X .triangles) tKeys tFirst tNext) (held .triangles .keyed .count ∙ sym e) (held .triangles);
-  }
-  rows-in (suc (suc (suc k))) m le e = absurd (omega arith)
-
-  -- of the dimensions from 1 on, the numbers are the list's own
-  pub columns-in : (dim n : ℕ) → 0 < dim → dim ≤ 3 → n ≡ length (simplices X dim) → Keyed (simplices X dim) (ofDimension dim eKeys tKeys sKeys) n
-  unfolding simplices
-  columns-in zero n some le e = absurd (omega arith)
-  columns-in (suc zero) n some le e = subst (Keyed (X .edges) eKeys) (held .edges .keyed .count ∙ sym e) (held .edges .keyed)
-  columns-in (suc (suc zero)) n some le e = subst (Keyed (X .triangles) tKeys) (held .triangles .keyed .count ∙ sym e) (held .triangles .keyed)
-  columns-in (suc (suc (suc zero))) n some le e = subst (Keyed (X .tetrahedra) sKeys) (held .tetrahedra .count ∙ sym e) (held .tetrahedra)
-  columns-in (suc (suc (suc (suc k)))) n some le e = absurd (omega arith)
+  sides-in zero n le e = subst (Sided (vertexList v) (X .edges) eKeys) (held .edges .count ∙ sym e) (edges-sided (held .sound .edges) (held .edges))
+  sides-in (suc zero) n le e = subst (Sided (X .edges) (X .triangles) tSides) (held .triangles .count ∙ sym e) (held .triangle-sides)
+  sides-in (suc (suc zero)) n le e = subst (Sided (X .triangles) (X .tetrahedra) sSides) (held .tetrahedra .count ∙ sym e) (held .tetrahedron-sides)
+  sides-in (suc (suc (suc k))) n le e = absurd (omega arith)
 
   numbers-room : (dim : ℕ) → 512 ≤ length (ofDimension dim eKeys tKeys sKeys)
   numbers-room dim = each (eqb dim 2) (eqb dim 3)
     where
       each : (x y : Bool) → 512 ≤ length (cond x tKeys (cond y sKeys eKeys))
-      each true y = held .roomy .triangles-room
-      each false true = held .roomy .tetrahedra-room
-      each false false = held .roomy .edges-room
+      each true y = held .room .triangles
+      each false true = held .room .tetrahedra
+      each false false = held .room .edges
 
-  -- and they stand for it: R is the array of the dimension, w its width
+  sides-room : (dim : ℕ) → 512 ≤ length (ofDimension dim eKeys tSides sSides)
+  sides-room dim = each (eqb dim 2) (eqb dim 3)
+    where
+      each : (x y : Bool) → 512 ≤ length (cond x tSides (cond y sSides eKeys))
+      each true y = held .room .triangle-sides
+      each false true = held .room .tetrahedron-sides
+      each false false = held .room .edges
+
+  -- the numbers stand for the list: R is the array of the dimension, w its width
   pub numbers-list : (dim w n : ℕ) {R : List ℕ} → R ≡ ofDimension dim eKeys tKeys sKeys → w ≡ suc dim → 0 < dim → dim ≤ 3
       → n ≡ length (simplices X dim) → simplicesIn w R n ≡ simplices X dim
   unfolding simplices
   numbers-list zero w n r is some le e = absurd (omega arith)
-  numbers-list (suc zero) w n r is some le e = ap₃ simplicesIn is r (e ∙ sym (held .edges .keyed .count))
-  numbers-list (suc (suc zero)) w n r is some le e = ap₃ simplicesIn is r (e ∙ sym (held .triangles .keyed .count))
+  numbers-list (suc zero) w n r is some le e = ap₃ simplicesIn is r (e ∙ sym (held .edges .count))
+  numbers-list (suc (suc zero)) w n r is some le e = ap₃ simplicesIn is r (e ∙ sym (held .triangles .count))
   numbers-list (suc (suc (suc zero))) w n r is some le e = ap₃ simplicesIn is r (e ∙ sym (held .tetrahedra .count))
   numbers-list (suc (suc (suc (suc k)))) w n r is some le e = absurd (omega arith)
 
   pub numbers-fit : (dim n : ℕ) {R : List ℕ} → R ≡ ofDimension dim eKeys tKeys sKeys → n ≡ length (simplices X dim) → n ≤ length R
   numbers-fit dim n r e = omega (arith, numbers-room dim, few-simplices X (held .sound) dim, ap length r)
 
-  -- the arrays K, F, N and R are those of the dimension
-  unfoldable pub matrix-in : (dim m n : ℕ) {K F N R : List ℕ} → K ≡ ofDimension dim eKeys tKeys sKeys → F ≡ linksOf dim eFirst tFirst
-      → N ≡ linksOf dim eNext tNext → R ≡ ofDimension (dim + 1) eKeys tKeys sKeys → dim ≤ 2 → m ≡ length (simplices X dim)
-      → n ≡ length (simplices X (dim + 1)) → MatrixIn 64 (dim + 2) K F N m R n
-  matrix-in dim m n k f next r le rows-are columns-are =
-      let low : suc dim ≡ dim + 2 - 1 = omega arith in
-      let two : suc (dim + 1) ≡ dim + 2 = omega arith in
+  -- the array S is that of the dimension
+  unfoldable pub matrix-in : (dim m n : ℕ) {S : List ℕ} → S ≡ ofDimension (dim + 1) eKeys tSides sSides → dim ≤ 2
+      → m ≡ length (simplices X dim) → n ≡ length (simplices X (dim + 1)) → MatrixIn 64 (dim + 2) m S n
+  matrix-in dim m n {S} s le rows-are columns-are =
+      let up : suc dim ≡ dim + 1 = omega arith in
       record {
         rows = simplices X dim;
         high = simplices X (dim + 1);
-        below =
-            subst₃ (λ (K F N : List ℕ). RowsIn (dim + 2 - 1) (simplices X dim) K F N m) (sym k) (sym f) (sym next)
-            (subst (λ (w : ℕ). RowsIn w (simplices X dim) (ofDimension dim eKeys tKeys sKeys) (linksOf dim eFirst tFirst) (linksOf dim eNext tNext) m) low
-            (rows-in dim m le rows-are));
-        wide = subst (λ (w : ℕ). Proper w (simplices X (dim + 1))) two (proper-list X (held .sound) (dim + 1));
-        keyed = subst (λ (R : List ℕ). Keyed (simplices X (dim + 1)) R n) (sym r) (columns-in (dim + 1) n (omega arith) (omega arith) columns-are);
-        least = omega arith;
-        most = omega arith;
+        row-count = rows-are;
+        count = columns-are;
+        wide = λ i lt. proper-list X (held .sound) (dim + 1) .wide i (omega arith) ∙ omega arith;
+        sided =
+            subst₂ (λ (k : ℕ) (a : List ℕ). Sided (simplices X dim) (simplices X k) a n) up
+            (ap (λ (k : ℕ). ofDimension k eKeys tSides sSides) up ∙ sym s)
+            (sides-in dim n le (columns-are ∙ ap (λ (k : ℕ). length (simplices X k)) (sym up)));
         few-rows = few-simplices X (held .sound) dim;
         few-columns = few-simplices X (held .sound) (dim + 1);
-        room = numbers-fit (dim + 1) n r columns-are;
+        room = omega (arith, sides-room (dim + 1), few-simplices X (held .sound) (dim + 1), ap length s);
       }
 
 -- the bytes of a chain's members are their vertices

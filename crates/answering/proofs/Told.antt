@@ -24,8 +24,8 @@ use Rattle.answers.specs.Meaning.{chainBytes}
 use Rattle.answering.specs.Meaning.{Answers}
 use Rattle.answering.proofs.Lists.{chain-bytes}
 
-module _ {read : NumbersRead} {eKeys eFirst eNext tKeys tFirst tNext sKeys : List ℕ}
-    (k : Asking read eKeys eFirst eNext tKeys tFirst tNext sKeys) {dim : ℕ}
+module _ {read : NumbersRead} {eKeys tKeys sKeys tSides sSides : List ℕ}
+    (k : Asking read eKeys tKeys sKeys tSides sSides) {dim : ℕ}
     (dim-is : dim ≡ chainDimension (questionOf (read .head .question)) (read .head .d)) where
   abbrev j : Job
   j = jobIn read eKeys tKeys sKeys (k .set)

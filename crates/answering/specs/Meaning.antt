@@ -12,10 +12,6 @@ pub record Answers (j : Job) (before after : List ℕ) (count : ℕ) : Type 0 wh
   pub is : AnswerTo j (j .question) answer
   pub put : Put before 0 answer after count
 
--- of edges, triangles and tetrahedra, those of a dimension
+-- of the numbers, or the sides, of edges, triangles and tetrahedra, those of a dimension
 abbrev pub ofDimension : ℕ → List ℕ → List ℕ → List ℕ → List ℕ
 ofDimension dim edges triangles tetrahedra = cond (eqb dim 2) triangles (cond (eqb dim 3) tetrahedra edges)
-
--- of the links of edges and triangles, those of a dimension; other rows have none
-abbrev pub linksOf : ℕ → List ℕ → List ℕ → List ℕ
-linksOf dim edges triangles = cond (eqb dim 2) triangles edges

@@ -1,5 +1,5 @@
-// Answers a job that was read into lent arrays: the numbers of the asked dimensions go to the solver, and its chain or its
-// refusal into the output.
+// Answers a job that was read into lent arrays: the sides of the asked dimension go to the solver, and its chain or its refusal
+// into the output.
 use jobs::NumbersRead;
 use lists::SimplexList;
 use lists::Verdict;
@@ -13,9 +13,9 @@ ghost use Rattle.lookup.specs.Numbered.{simplicesIn};
 ghost use Rattle.lent_lists.specs.Held.{complexIn, Held};
 ghost use Rattle.jobs.specs.Meaning.{Asking, jobIn};
 ghost use Rattle.solver.specs.Solved.{RimTold};
-ghost use Rattle.answering.specs.Meaning.{Answers, ofDimension, linksOf};
+ghost use Rattle.answering.specs.Meaning.{Answers, ofDimension};
 
-// Of three lists, the numbers of the simplices of a dimension from 1 on.
+// Of three lists' numbers, or sides, those of a dimension from 1 on.
 fn numbers_of<'a>(
     dim: usize,
     edges: &'a [u64],
@@ -29,16 +29,6 @@ fn numbers_of<'a>(
     }
     if dim == 3 {
         return tetrahedra;
-    }
-    edges
-}
-
-// The links of the rows of a dimension: vertices need none, so any do.
-fn links_of<'a>(dim: usize, edges: &'a [u16], triangles: &'a [u16]) -> &'a [u16]
-    ensures { λ r. ⌜ now r ≡ linksOf dim (now (edges .entry)) (now (triangles .entry)) ⌝ }
-{
-    if dim == 2 {
-        return triangles;
     }
     edges
 }
@@ -60,14 +50,12 @@ fn rim_closed<'a>(
     read: NumbersRead,
     dim: usize,
     e_keys: &'a [u64],
-    e_first: &'a [u16],
-    e_next: &'a [u16],
     t_keys: &'a [u64],
-    t_first: &'a [u16],
-    t_next: &'a [u16],
     s_keys: &'a [u64],
+    t_sides: &'a [u64],
+    s_sides: &'a [u64],
 ) -> bool
-    requires { ⌜ Asking read (now «e_keys») (now «e_first») (now «e_next») (now «t_keys») (now «t_first») (now «t_next») (now «s_keys») ⌝ }
+    requires { ⌜ Asking read (now «e_keys») (now «t_keys») (now «s_keys») (now «t_sides») (now «s_sides») ⌝ }
     requires { ⌜ dim ≤ 2 ⌝ }
     ensures { λ r. ⌜ RimTold (lower (complexIn (read .head .v) (read .counts) (now («e_keys» .entry)) (now («t_keys» .entry)) (now («s_keys» .entry))) dim) (simplices (complexIn (read .head .v) (read .counts) (now («e_keys» .entry)) (now («t_keys» .entry)) (now («s_keys» .entry))) dim) (read .marks) r ⌝ }
 {
@@ -80,12 +68,9 @@ fn rim_closed<'a>(
     let low = dim - 1;
     let m = counts.of(head.v, low);
     let n = counts.of(head.v, low + 1);
-    let keys = numbers_of(low, e_keys, t_keys, s_keys);
-    let first = links_of(low, e_first, t_first);
-    let next = links_of(low, e_next, t_next);
-    let rows = numbers_of(low + 1, e_keys, t_keys, s_keys);
+    let sides = numbers_of(low + 1, e_keys, t_sides, s_sides);
     let mut cur = [0u8; 128];
-    solver::rim_closed(&mut cur, keys, first, next, m, rows, n, low + 2, marks, 64)
+    solver::rim_closed(&mut cur, m, sides, n, low + 2, marks, 64)
 }
 
 // Fills A, of dimension `dim`: the patch, or refusal 12 or 13.
@@ -95,30 +80,26 @@ fn answer_fill<'a>(
     read: NumbersRead,
     dim: usize,
     e_keys: &'a [u64],
-    e_first: &'a [u16],
-    e_next: &'a [u16],
     t_keys: &'a [u64],
-    t_first: &'a [u16],
-    t_next: &'a [u16],
     s_keys: &'a [u64],
+    t_sides: &'a [u64],
+    s_sides: &'a [u64],
 ) -> usize
-    requires { ⌜ Asking read (now «e_keys») (now «e_first») (now «e_next») (now «t_keys») (now «t_first») (now «t_next») (now «s_keys») ⌝ }
+    requires { ⌜ Asking read (now «e_keys») (now «t_keys») (now «s_keys») (now «t_sides») (now «s_sides») ⌝ }
     requires { ⌜ dim ≡ chainDimension (questionOf (read .head .question)) (read .head .d) ⌝ }
     requires { ⌜ questionOf (read .head .question) ≡ fill ⌝ }
     requires { ⌜ 2055 ≤ length (now out) ⌝ }
     requires { ⌜ 65536 ≤ length (now work) ⌝ }
-    ensures { λ r. ⌜ ((k : Asking read (now («e_keys» .entry)) (now («e_first» .entry)) (now («e_next» .entry)) (now («t_keys» .entry)) (now («t_first» .entry)) (now («t_next» .entry)) (now («s_keys» .entry))) → Answers (jobIn read (now («e_keys» .entry)) (now («t_keys» .entry)) (now («s_keys» .entry)) (k .set)) (now (out .entry)) (now (out .exit)) r) ⌝ }
+    ensures { λ r. ⌜ ((k : Asking read (now («e_keys» .entry)) (now («t_keys» .entry)) (now («s_keys» .entry)) (now («t_sides» .entry)) (now («s_sides» .entry))) → Answers (jobIn read (now («e_keys» .entry)) (now («t_keys» .entry)) (now («s_keys» .entry)) (k .set)) (now (out .entry)) (now (out .exit)) r) ⌝ }
 {
     let closed = rim_closed(
         read,
         dim,
         e_keys,
-        e_first,
-        e_next,
         t_keys,
-        t_first,
-        t_next,
         s_keys,
+        t_sides,
+        s_sides,
     );
     if !closed {
         return answers::put_refusal(out, Verdict::RIM_OPEN, 0);
@@ -128,27 +109,13 @@ fn answer_fill<'a>(
     let marks = read.marks;
     let m = counts.of(head.v, dim);
     let n = counts.of(head.v, dim + 1);
-    let keys = numbers_of(dim, e_keys, t_keys, s_keys);
-    let first = links_of(dim, e_first, t_first);
-    let next = links_of(dim, e_next, t_next);
-    let cols = numbers_of(dim + 1, e_keys, t_keys, s_keys);
+    let sides = numbers_of(dim + 1, e_keys, t_sides, s_sides);
     let mut cur = [0u8; 128];
-    let filled = solver::fill(
-        work,
-        &mut cur,
-        keys,
-        first,
-        next,
-        m,
-        cols,
-        n,
-        dim + 2,
-        marks,
-        64,
-    );
+    let filled = solver::fill(work, &mut cur, m, sides, n, dim + 2, marks, 64);
     match filled {
         Filled::None => answers::put_refusal(out, Verdict::NO_FILLING, 0),
         Filled::Found => {
+            let cols = numbers_of(dim + 1, e_keys, t_keys, s_keys);
             let half = 64;
             answers::put_chain(out, head.d, cols, n, dim + 2, &cur[half..])
         }
@@ -162,43 +129,26 @@ fn answer_class<'a>(
     read: NumbersRead,
     dim: usize,
     e_keys: &'a [u64],
-    e_first: &'a [u16],
-    e_next: &'a [u16],
     t_keys: &'a [u64],
-    t_first: &'a [u16],
-    t_next: &'a [u16],
     s_keys: &'a [u64],
+    t_sides: &'a [u64],
+    s_sides: &'a [u64],
 ) -> usize
-    requires { ⌜ Asking read (now «e_keys») (now «e_first») (now «e_next») (now «t_keys») (now «t_first») (now «t_next») (now «s_keys») ⌝ }
+    requires { ⌜ Asking read (now «e_keys») (now «t_keys») (now «s_keys») (now «t_sides») (now «s_sides») ⌝ }
     requires { ⌜ dim ≡ chainDimension (questionOf (read .head .question)) (read .head .d) ⌝ }
     requires { ⌜ questionOf (read .head .question) ≡ class ⌝ }
     requires { ⌜ 2055 ≤ length (now out) ⌝ }
     requires { ⌜ 65536 ≤ length (now work) ⌝ }
-    ensures { λ r. ⌜ ((k : Asking read (now («e_keys» .entry)) (now («e_first» .entry)) (now («e_next» .entry)) (now («t_keys» .entry)) (now («t_first» .entry)) (now («t_next» .entry)) (now («s_keys» .entry))) → Answers (jobIn read (now («e_keys» .entry)) (now («t_keys» .entry)) (now («s_keys» .entry)) (k .set)) (now (out .entry)) (now (out .exit)) r) ⌝ }
+    ensures { λ r. ⌜ ((k : Asking read (now («e_keys» .entry)) (now («t_keys» .entry)) (now («s_keys» .entry)) (now («t_sides» .entry)) (now («s_sides» .entry))) → Answers (jobIn read (now («e_keys» .entry)) (now («t_keys» .entry)) (now («s_keys» .entry)) (k .set)) (now (out .entry)) (now (out .exit)) r) ⌝ }
 {
     let head = read.head;
     let counts = read.counts;
     let marks = read.marks;
     let m = counts.of(head.v, dim);
     let n = counts.of(head.v, dim + 1);
-    let keys = numbers_of(dim, e_keys, t_keys, s_keys);
-    let first = links_of(dim, e_first, t_first);
-    let next = links_of(dim, e_next, t_next);
-    let cols = numbers_of(dim + 1, e_keys, t_keys, s_keys);
+    let sides = numbers_of(dim + 1, e_keys, t_sides, s_sides);
     let mut cur = [0u8; 128];
-    solver::class(
-        work,
-        &mut cur,
-        keys,
-        first,
-        next,
-        m,
-        cols,
-        n,
-        dim + 2,
-        marks,
-        64,
-    );
+    solver::class(work, &mut cur, m, sides, n, dim + 2, marks, 64);
     let start = 0;
     let half = 64;
     if dim == 0 {
@@ -206,7 +156,8 @@ fn answer_class<'a>(
         number_vertices(&mut vertices, m);
         return answers::put_chain(out, head.d, &vertices, m, 1, &cur[start..half]);
     }
-    answers::put_chain(out, head.d, keys, m, dim + 1, &cur[start..half])
+    let rows = numbers_of(dim, e_keys, t_keys, s_keys);
+    answers::put_chain(out, head.d, rows, m, dim + 1, &cur[start..half])
 }
 
 // Answers a job: its question is a filling, or else a class.
@@ -215,17 +166,15 @@ pub fn answer_job<'a>(
     work: &mut [u8],
     read: NumbersRead,
     e_keys: &'a [u64],
-    e_first: &'a [u16],
-    e_next: &'a [u16],
     t_keys: &'a [u64],
-    t_first: &'a [u16],
-    t_next: &'a [u16],
     s_keys: &'a [u64],
+    t_sides: &'a [u64],
+    s_sides: &'a [u64],
 ) -> usize
-    requires { ⌜ Asking read (now «e_keys») (now «e_first») (now «e_next») (now «t_keys») (now «t_first») (now «t_next») (now «s_keys») ⌝ }
+    requires { ⌜ Asking read (now «e_keys») (now «t_keys») (now «s_keys») (now «t_sides») (now «s_sides») ⌝ }
     requires { ⌜ 2055 ≤ length (now out) ⌝ }
     requires { ⌜ 65536 ≤ length (now work) ⌝ }
-    ensures { λ r. ⌜ ((k : Asking read (now («e_keys» .entry)) (now («e_first» .entry)) (now («e_next» .entry)) (now («t_keys» .entry)) (now («t_first» .entry)) (now («t_next» .entry)) (now («s_keys» .entry))) → Answers (jobIn read (now («e_keys» .entry)) (now («t_keys» .entry)) (now («s_keys» .entry)) (k .set)) (now (out .entry)) (now (out .exit)) r) ⌝ }
+    ensures { λ r. ⌜ ((k : Asking read (now («e_keys» .entry)) (now («t_keys» .entry)) (now («s_keys» .entry)) (now («t_sides» .entry)) (now («s_sides» .entry))) → Answers (jobIn read (now («e_keys» .entry)) (now («t_keys» .entry)) (now («s_keys» .entry)) (k .set)) (now (out .entry)) (now (out .exit)) r) ⌝ }
 {
     let head = read.head;
     let dim = jobs::chain_dimension(head);
@@ -236,12 +185,10 @@ pub fn answer_job<'a>(
             read,
             dim,
             e_keys,
-            e_first,
-            e_next,
             t_keys,
-            t_first,
-            t_next,
             s_keys,
+            t_sides,
+            s_sides,
         )
     } else {
         answer_class(
@@ -250,12 +197,10 @@ pub fn answer_job<'a>(
             read,
             dim,
             e_keys,
-            e_first,
-            e_next,
             t_keys,
-            t_first,
-            t_next,
             s_keys,
+            t_sides,
+            s_sides,
         )
     }
 }

@@ -49,8 +49,8 @@ refused-fine : {A : Type 0} {verdict : Verdict} (n p : ℕ) → verdict ≡ Refu
 refused-fine n p e f = let z : _≡_ {A = ℕ} 0 1 = cc in absurd (omega arith)
 
 -- A REFUSAL of a stage is the outcome.
-pub told-refused : (r : Reading reader.Job) {eKeys eFirst eNext tKeys tFirst tNext sKeys : List ℕ} (j : NumbersRead) (n p : ℕ) → r ≡ refused n p
-    → j .verdict ≡ Refused n p → Told r eKeys eFirst eNext tKeys tFirst tNext sKeys j
+pub told-refused : (r : Reading reader.Job) {eKeys tKeys sKeys tSides sSides : List ℕ} (j : NumbersRead) (n p : ℕ) → r ≡ refused n p
+    → j .verdict ≡ Refused n p → Told r eKeys tKeys sKeys tSides sSides j
 told-refused r {eKeys} {tKeys = tKeys} {sKeys = sKeys} j n p e v = record {
   set = λ s. false;
   is = e ∙ ap (λ x. readingOf x (jobIn j eKeys tKeys sKeys (λ s. false))) (sym v);
@@ -60,14 +60,14 @@ told-refused r {eKeys} {tKeys = tKeys} {sKeys = sKeys} j n p e v = record {
 }
 
 -- what is read as one thing is read as what that is
-pub told-same : {r s : Reading reader.Job} {eKeys eFirst eNext tKeys tFirst tNext sKeys : List ℕ} (j : NumbersRead) → r ≡ s
-    → Told s eKeys eFirst eNext tKeys tFirst tNext sKeys j → Told r eKeys eFirst eNext tKeys tFirst tNext sKeys j
-told-same {eKeys = eKeys} {eFirst = eFirst} {eNext = eNext} {tKeys = tKeys} {tFirst = tFirst} {tNext = tNext} {sKeys = sKeys} j e o =
-    subst (λ x. Told x eKeys eFirst eNext tKeys tFirst tNext sKeys j) (sym e) o
+pub told-same : {r s : Reading reader.Job} {eKeys tKeys sKeys tSides sSides : List ℕ} (j : NumbersRead) → r ≡ s
+    → Told s eKeys tKeys sKeys tSides sSides j → Told r eKeys tKeys sKeys tSides sSides j
+told-same {eKeys = eKeys} {tKeys = tKeys} {sKeys = sKeys} {tSides = tSides} {sSides = sSides} j e o =
+    subst (λ x. Told x eKeys tKeys sKeys tSides sSides j) (sym e) o
 
 -- THE JOB BY VALUE, from what was read into arrays.
-pub outcome-refused : {r : Reading reader.Job} {eKeys eFirst eNext tKeys tFirst tNext sKeys : List ℕ} {read : NumbersRead}
-    → Told r eKeys eFirst eNext tKeys tFirst tNext sKeys read → (j : JobRead) (n p : ℕ) → read .verdict ≡ Refused n p
+pub outcome-refused : {r : Reading reader.Job} {eKeys tKeys sKeys tSides sSides : List ℕ} {read : NumbersRead}
+    → Told r eKeys tKeys sKeys tSides sSides read → (j : JobRead) (n p : ℕ) → read .verdict ≡ Refused n p
     → j .verdict ≡ Refused n p → Outcome r j
 outcome-refused {r} {eKeys} {tKeys = tKeys} {sKeys = sKeys} {read = read} told j n p e v = record {
   set = told .set;
@@ -77,8 +77,8 @@ outcome-refused {r} {eKeys} {tKeys = tKeys} {sKeys = sKeys} {read = read} told j
   v = refused-fine n p v;
 }
 
-pub outcome-fine : {r : Reading reader.Job} {eKeys eFirst eNext tKeys tFirst tNext sKeys : List ℕ} {read : NumbersRead}
-    → Told r eKeys eFirst eNext tKeys tFirst tNext sKeys read → (X : Complex) → read .verdict ≡ Fine
+pub outcome-fine : {r : Reading reader.Job} {eKeys tKeys sKeys tSides sSides : List ℕ} {read : NumbersRead}
+    → Told r eKeys tKeys sKeys tSides sSides read → (X : Complex) → read .verdict ≡ Fine
     → complexOf X ≡ complexIn (read .head .v) (read .counts) eKeys tKeys sKeys
     → Outcome r (record { verdict = Fine; job = record { head = read .head; complex = X; marks = read .marks } })
 outcome-fine {r} {eKeys} {tKeys = tKeys} {sKeys = sKeys} {read = read} told X fine made = record {
@@ -159,8 +159,8 @@ module _ (b : List ℕ) (at : ℕ) (h : reader.Head) where
       rest l = afterLists small b h (l .next) (l .complex)
 
   -- so a refusal among them is the outcome, and otherwise the rest is
-  module _ {eKeys eFirst eNext tKeys tFirst tNext sKeys : List ℕ} (r : ListsRead)
-      (told : ListsTold b at (h .v) eKeys eFirst eNext tKeys tFirst tNext sKeys r) where
+  module _ {eKeys eFirst eNext tKeys sKeys tSides sSides : List ℕ} (r : ListsRead)
+      (told : ListsTold b at (h .v) eKeys eFirst eNext tKeys sKeys tSides sSides r) where
     pub lists-refused : (n p : ℕ) → r .verdict ≡ Refused n p → afterHead small b at h ≡ refused n p
     lists-refused n p e =
         lists-first
@@ -224,8 +224,8 @@ chain-told b at dim X r n p h e read v =
     chain-refused b at h X n p
     (ap (λ k. readChain small b at k X) (sym e) ∙ read .reading ∙ ap (λ x. readingOf x (record { chain = read .set; next = r .next })) v)
 
-pub edits-told : (b : List ℕ) (at dim : ℕ) (X : format.Complex) (r : ChainStage) (head : Head) (done : Edited) {eKeys eFirst eNext tKeys tFirst tNext sKeys : List ℕ} → dim ≡ chainDimension (questionOf (head .question)) (head .d) → SoundHead head → SoundComplex small X → ChainStageRead b at dim X r → r .verdict ≡ Fine → EditsHeld b (r .next) dim (head .v) X (r .marks) eKeys eFirst eNext tKeys tFirst tNext sKeys done
-    → Told (afterLists small b (headOf head) at X) eKeys eFirst eNext tKeys tFirst tNext sKeys (record { verdict = done .verdict; head = head; counts = done .counts; marks = done .marks })
+pub edits-told : (b : List ℕ) (at dim : ℕ) (X : format.Complex) (r : ChainStage) (head : Head) (done : Edited) {eKeys tKeys sKeys tSides sSides : List ℕ} → dim ≡ chainDimension (questionOf (head .question)) (head .d) → SoundHead head → SoundComplex small X → ChainStageRead b at dim X r → r .verdict ≡ Fine → EditsHeld b (r .next) dim (head .v) X (r .marks) eKeys tKeys sKeys tSides sSides done
+    → Told (afterLists small b (headOf head) at X) eKeys tKeys sKeys tSides sSides (record { verdict = done .verdict; head = head; counts = done .counts; marks = done .marks })
 edits-told b at dim X r head done {eKeys} {tKeys = tKeys} {sKeys = sKeys} e known sound read fine taken = record {
   set = read .set;
   is = edits-read b at (headOf head) X (record { chain = read .set; next = r .next }) (done .verdict) (complexIn (head .v) (done .counts) eKeys tKeys sKeys)
@@ -257,9 +257,10 @@ head-known p r h known e =
     record { asks = known .asks h e; dimension = read .0; vertices = read .1 }
 
 -- lists of which one was refused
-pub lists-told-refused : {b : List ℕ} {at v : ℕ} {eKeys eFirst eNext tKeys tFirst tNext sKeys : List ℕ} {n p : ℕ} (r : ListsRead) → r .verdict ≡ Refused n p
-    → readLists b at v ≡ refused n p → ListsTold b at v eKeys eFirst eNext tKeys tFirst tNext sKeys r
+pub lists-told-refused : {b : List ℕ} {at v : ℕ} {eKeys eFirst eNext tKeys sKeys tSides sSides : List ℕ} {n p : ℕ} (r : ListsRead) → r .verdict ≡ Refused n p
+    → readLists b at v ≡ refused n p → ListsTold b at v eKeys eFirst eNext tKeys sKeys tSides sSides r
 lists-told-refused {v = v} {eKeys = eKeys} {tKeys = tKeys} {sKeys = sKeys} {n = n} {p = p} r e out = record {
   reads = out ∙ ap (λ x. readingOf x (record { complex = complexIn v (r .counts) eKeys tKeys sKeys; next = r .next })) (sym e);
   held = refused-fine n p e;
+  linked = refused-fine n p e;
 }

@@ -26,12 +26,12 @@ read-readable b r o f =
     }
 
 -- THE SAME, of a job in lent arrays.
-module _ (b : List ℕ) {eKeys eFirst eNext tKeys tFirst tNext sKeys : List ℕ} (r : NumbersRead)
-    (o : Told (reading small b) eKeys eFirst eNext tKeys tFirst tNext sKeys r) (f : r .verdict ≡ Fine) where
+module _ (b : List ℕ) {eKeys tKeys sKeys tSides sSides : List ℕ} (r : NumbersRead)
+    (o : Told (reading small b) eKeys tKeys sKeys tSides sSides r) (f : r .verdict ≡ Fine) where
   pub told-accepted : reading small b ≡ accepted (jobIn r eKeys tKeys sKeys (o .set))
   told-accepted = o .is ∙ ap (λ v. readingOf v (jobIn r eKeys tKeys sKeys (o .set))) f
 
-  unfoldable pub told-asking : Asking r eKeys eFirst eNext tKeys tFirst tNext sKeys
+  unfoldable pub told-asking : Asking r eKeys tKeys sKeys tSides sSides
   told-asking = record {
     set = o .set;
     sound = accepted-sound small b (jobIn r eKeys tKeys sKeys (o .set)) told-accepted;

@@ -18,7 +18,8 @@ use Rattle.heads.specs.declared.Head.{Head}
 use Rattle.heads.specs.Meaning.{headOf}
 use Rattle.complexes.specs.Meaning.{jobOf, Marked}
 use Rattle.complexes.specs.declared.Job.{Job}
-use Rattle.lookup.specs.Indexed.{Blank}
+use Rattle.lookup.specs.Indexed.{Indexed}
+use Rattle.lookup.specs.Numbered.{simplicesIn}
 use Rattle.lent_lists.specs.Held.{complexIn, Held}
 use Rattle.jobs.specs.declared.JobRead.{JobRead}
 use Rattle.jobs.specs.declared.NumbersRead.{NumbersRead}
@@ -53,18 +54,12 @@ jobIn j eKeys tKeys sKeys A = record {
   chain = A;
 }
 
--- lent arrays that hold nothing yet
-pub record Lent (eKeys eFirst eNext tKeys tFirst tNext sKeys : List ℕ) : Type 0 where
-  pub edges : Blank eKeys eFirst eNext
-  pub triangles : Blank tKeys tFirst tNext
-  pub tetrahedra : 512 ≤ length sKeys
-
 -- What reading comes to in lent arrays: the verdict and the job are the definition's; where nothing was refused, the arrays
 -- hold the complex after all edits, and the marks are A's members by rank.
-pub record Told (r : Reading format.Job) (eKeys eFirst eNext tKeys tFirst tNext sKeys : List ℕ) (j : NumbersRead) : Type 0 where
+pub record Told (r : Reading format.Job) (eKeys tKeys sKeys tSides sSides : List ℕ) (j : NumbersRead) : Type 0 where
   pub set : SimplexSet
   pub is : r ≡ readingOf (j .verdict) (jobIn j eKeys tKeys sKeys set)
-  pub held : j .verdict ≡ Fine → Held (j .head .v) (j .counts) eKeys eFirst eNext tKeys tFirst tNext sKeys
+  pub held : j .verdict ≡ Fine → Held (j .head .v) (j .counts) eKeys tKeys sKeys tSides sSides
   pub marks : j .verdict ≡ Fine → Marked (j .marks .on) (rows (jobIn j eKeys tKeys sKeys set)) set
   pub head : j .verdict ≡ Fine → SoundHead (j .head)
 
@@ -81,10 +76,12 @@ readLists b at v =
     readList small b (t .next) tetrahedraKind v (t .list) andThen λ s.
     accepted (record { complex = record { v = v; edges = e .list; triangles = t .list; tetrahedra = s .list }; next = s .next })
 
--- What reading the lists leaves: the definition's reading; and where nothing was refused, the arrays hold a sound complex.
-pub record ListsTold (b : List ℕ) (at v : ℕ) (eKeys eFirst eNext tKeys tFirst tNext sKeys : List ℕ) (r : ListsRead) : Type 0 where
+-- What reading the lists leaves: the definition's reading; and where nothing was refused, the arrays hold a sound complex, and
+-- its edges can be looked up.
+pub record ListsTold (b : List ℕ) (at v : ℕ) (eKeys eFirst eNext tKeys sKeys tSides sSides : List ℕ) (r : ListsRead) : Type 0 where
   pub reads : readLists b at v ≡ readingOf (r .verdict) (record { complex = complexIn v (r .counts) eKeys tKeys sKeys; next = r .next })
-  pub held : r .verdict ≡ Fine → v ≤ 256 → Held v (r .counts) eKeys eFirst eNext tKeys tFirst tNext sKeys
+  pub held : r .verdict ≡ Fine → v ≤ 256 → Held v (r .counts) eKeys tKeys sKeys tSides sSides
+  pub linked : r .verdict ≡ Fine → Indexed (simplicesIn 2 eKeys (r .counts .edges)) eKeys eFirst eNext (r .counts .edges)
 
 -- A job of the code that means a sound job: A is the set that its marks hold.
 pub record Readable (j : Job) : Type 0 where
@@ -95,9 +92,9 @@ pub record Readable (j : Job) : Type 0 where
   pub marks : Marked (j .marks .on) (rows (jobOf j set)) set
 
 -- A sound job that lent arrays hold: the same, of numbers.
-pub record Asking (j : NumbersRead) (eKeys eFirst eNext tKeys tFirst tNext sKeys : List ℕ) : Type 0 where
+pub record Asking (j : NumbersRead) (eKeys tKeys sKeys tSides sSides : List ℕ) : Type 0 where
   pub set : SimplexSet
   pub sound : SoundJob small (jobIn j eKeys tKeys sKeys set)
   pub head : SoundHead (j .head)
-  pub held : Held (j .head .v) (j .counts) eKeys eFirst eNext tKeys tFirst tNext sKeys
+  pub held : Held (j .head .v) (j .counts) eKeys tKeys sKeys tSides sSides
   pub marks : Marked (j .marks .on) (rows (jobIn j eKeys tKeys sKeys set)) set

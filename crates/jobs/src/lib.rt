@@ -1,5 +1,6 @@
 // The job reader: every byte string becomes a job or a numbered refusal with its place. Each stage hands on to the next, and
-// the lists stay where they were read: as numbers in lent arrays, of edges (e), triangles (t) and tetrahedra (s).
+// the lists stay where they were read: as numbers in lent arrays, of edges (e), triangles (t) and tetrahedra (s), with the sides
+// of the latter two.
 use complexes::Complex;
 use complexes::Job;
 use heads::Head;
@@ -15,10 +16,11 @@ ghost use Prim.Native.Nat.{_≤_};
 ghost use lib.ListN.{length};
 ghost use Rattle.format.specs.Numbers.{small};
 ghost use Rattle.format.specs.Reading.{reading, afterHead, afterLists, chainDimension, questionOf};
-ghost use Rattle.lookup.specs.Indexed.{Blank};
+ghost use Rattle.lookup.specs.Indexed.{Blank, Indexed};
+ghost use Rattle.lookup.specs.Numbered.{simplicesIn};
 ghost use Rattle.heads.specs.Meaning.{headOf};
-ghost use Rattle.lent_lists.specs.Held.{complexIn, Held};
-ghost use Rattle.jobs.specs.Meaning.{Outcome, SoundHead, ListsTold, Lent, Told};
+ghost use Rattle.lent_lists.specs.Held.{complexIn, Room, Held};
+ghost use Rattle.jobs.specs.Meaning.{Outcome, SoundHead, ListsTold, Told};
 
 // A verdict, and the job beside it, which counts only where nothing was refused.
 pub struct JobRead {
@@ -99,8 +101,9 @@ impl ListsRead {
     }
 }
 
-// The edges, the triangles over them and the tetrahedra over those. An edge's facets are vertices, which no list holds, so no
-// faces are entered for it. No facet is a tetrahedron, so theirs are chained for the look-up of doubles alone.
+// The edges, the triangles over them and the tetrahedra over those. An edge's facets are vertices, which no list holds, so its
+// faces are a list of which nothing is entered, and its number says its sides. The links of the edges stay, for a walk; those of
+// triangles serve the look-up of facets and doubles alone, and those of tetrahedra that of doubles.
 fn read_lists(
     job: &[u8],
     at: usize,
@@ -109,28 +112,29 @@ fn read_lists(
     e_first: &mut [u16],
     e_next: &mut [u16],
     t_keys: &mut [u64],
-    t_first: &mut [u16],
-    t_next: &mut [u16],
     s_keys: &mut [u64],
+    t_sides: &mut [u64],
+    s_sides: &mut [u64],
 ) -> ListsRead
-    requires { ⌜ Lent (now «e_keys») (now «e_first») (now «e_next») (now «t_keys») (now «t_first») (now «t_next») (now «s_keys») ⌝ }
-    ensures { λ r. ⌜ ListsTold (now (job .entry)) at v (now («e_keys» .exit)) (now («e_first» .exit)) (now («e_next» .exit)) (now («t_keys» .exit)) (now («t_first» .exit)) (now («t_next» .exit)) (now («s_keys» .exit)) r ⌝ }
+    requires { ⌜ Room (now «e_keys») (now «t_keys») (now «s_keys») (now «t_sides») (now «s_sides») ⌝ }
+    requires { ⌜ Blank (now «e_keys») (now «e_first») (now «e_next») ⌝ }
+    ensures { λ r. ⌜ ListsTold (now (job .entry)) at v (now («e_keys» .exit)) (now («e_first» .exit)) (now («e_next» .exit)) (now («t_keys» .exit)) (now («s_keys» .exit)) (now («t_sides» .exit)) (now («s_sides» .exit)) r ⌝ }
 {
-    let no_keys = [0u64; 1];
-    let no_first = [0u16; BUCKETS];
-    let no_next = [0u16; 1];
+    let mut t_first = [0u16; BUCKETS];
+    let mut t_next = [0u16; SimplexList::LIMIT];
     let e = stages::read_list(
         job,
         at,
         SimplexList::EDGES,
         v,
-        &no_keys,
-        &no_first,
-        &no_next,
+        t_keys,
+        &t_first,
+        &t_next,
         0,
         e_keys,
         e_first,
         e_next,
+        s_sides,
     );
     let edges_verdict = e.verdict;
     if let Verdict::Refused(number, place) = edges_verdict {
@@ -146,8 +150,9 @@ fn read_lists(
         e_next,
         e.count,
         t_keys,
-        t_first,
-        t_next,
+        &mut t_first,
+        &mut t_next,
+        t_sides,
     );
     let triangles_verdict = t.verdict;
     if let Verdict::Refused(number, place) = triangles_verdict {
@@ -161,12 +166,13 @@ fn read_lists(
         SimplexList::TETRAHEDRA,
         v,
         t_keys,
-        t_first,
-        t_next,
+        &t_first,
+        &t_next,
         t.count,
         s_keys,
         &mut s_first,
         &mut s_next,
+        s_sides,
     );
     let verdict = s.verdict;
     ListsRead {
@@ -187,17 +193,18 @@ fn after_lists(
     at: usize,
     counts: Counts,
     e_keys: &mut [u64],
-    e_first: &mut [u16],
-    e_next: &mut [u16],
+    e_first: &[u16],
+    e_next: &[u16],
     t_keys: &mut [u64],
-    t_first: &mut [u16],
-    t_next: &mut [u16],
     s_keys: &mut [u64],
+    t_sides: &mut [u64],
+    s_sides: &mut [u64],
 ) -> NumbersRead
     requires { ⌜ length (now job) ≤ 6690 ⌝ }
     requires { ⌜ SoundHead head ⌝ }
-    requires { ⌜ Held (head .v) counts (now «e_keys») (now «e_first») (now «e_next») (now «t_keys») (now «t_first») (now «t_next») (now «s_keys») ⌝ }
-    ensures { λ r. ⌜ Told (afterLists small (now (job .entry)) (headOf head) at (complexIn (head .v) counts (now («e_keys» .entry)) (now («t_keys» .entry)) (now («s_keys» .entry)))) (now («e_keys» .exit)) (now («e_first» .exit)) (now («e_next» .exit)) (now («t_keys» .exit)) (now («t_first» .exit)) (now («t_next» .exit)) (now («s_keys» .exit)) r ⌝ }
+    requires { ⌜ Held (head .v) counts (now «e_keys») (now «t_keys») (now «s_keys») (now «t_sides») (now «s_sides») ⌝ }
+    requires { ⌜ Indexed (simplicesIn 2 (now «e_keys») (counts .edges)) (now «e_keys») (now «e_first») (now «e_next») (counts .edges) ⌝ }
+    ensures { λ r. ⌜ Told (afterLists small (now (job .entry)) (headOf head) at (complexIn (head .v) counts (now («e_keys» .entry)) (now («t_keys» .entry)) (now («s_keys» .entry)))) (now («e_keys» .exit)) (now («t_keys» .exit)) (now («s_keys» .exit)) (now («t_sides» .exit)) (now («s_sides» .exit)) r ⌝ }
 {
     let v = head.v;
     let dim = chain_dimension(head);
@@ -217,12 +224,10 @@ fn after_lists(
         marks,
         dim,
         e_keys,
-        e_first,
-        e_next,
         t_keys,
-        t_first,
-        t_next,
         s_keys,
+        t_sides,
+        s_sides,
     );
     let verdict_after = edited.verdict;
     let counts_after = edited.counts;
@@ -241,29 +246,29 @@ fn after_head(
     head: Head,
     at: usize,
     e_keys: &mut [u64],
-    e_first: &mut [u16],
-    e_next: &mut [u16],
     t_keys: &mut [u64],
-    t_first: &mut [u16],
-    t_next: &mut [u16],
     s_keys: &mut [u64],
+    t_sides: &mut [u64],
+    s_sides: &mut [u64],
 ) -> NumbersRead
     requires { ⌜ length (now job) ≤ 6690 ⌝ }
     requires { ⌜ SoundHead head ⌝ }
-    requires { ⌜ Lent (now «e_keys») (now «e_first») (now «e_next») (now «t_keys») (now «t_first») (now «t_next») (now «s_keys») ⌝ }
-    ensures { λ r. ⌜ Told (afterHead small (now (job .entry)) at (headOf head)) (now («e_keys» .exit)) (now («e_first» .exit)) (now («e_next» .exit)) (now («t_keys» .exit)) (now («t_first» .exit)) (now («t_next» .exit)) (now («s_keys» .exit)) r ⌝ }
+    requires { ⌜ Room (now «e_keys») (now «t_keys») (now «s_keys») (now «t_sides») (now «s_sides») ⌝ }
+    ensures { λ r. ⌜ Told (afterHead small (now (job .entry)) at (headOf head)) (now («e_keys» .exit)) (now («t_keys» .exit)) (now («s_keys» .exit)) (now («t_sides» .exit)) (now («s_sides» .exit)) r ⌝ }
 {
+    let mut e_first = [0u16; BUCKETS];
+    let mut e_next = [0u16; SimplexList::LIMIT];
     let lists = read_lists(
         job,
         at,
         head.v,
         e_keys,
-        e_first,
-        e_next,
+        &mut e_first,
+        &mut e_next,
         t_keys,
-        t_first,
-        t_next,
         s_keys,
+        t_sides,
+        s_sides,
     );
     let verdict = lists.verdict;
     if let Verdict::Refused(number, place) = verdict {
@@ -276,12 +281,12 @@ fn after_head(
         lists.next,
         counts,
         e_keys,
-        e_first,
-        e_next,
+        &e_first,
+        &e_next,
         t_keys,
-        t_first,
-        t_next,
         s_keys,
+        t_sides,
+        s_sides,
     )
 }
 
@@ -289,15 +294,13 @@ fn after_head(
 pub fn read_numbers(
     job: &[u8],
     e_keys: &mut [u64],
-    e_first: &mut [u16],
-    e_next: &mut [u16],
     t_keys: &mut [u64],
-    t_first: &mut [u16],
-    t_next: &mut [u16],
     s_keys: &mut [u64],
+    t_sides: &mut [u64],
+    s_sides: &mut [u64],
 ) -> NumbersRead
-    requires { ⌜ Lent (now «e_keys») (now «e_first») (now «e_next») (now «t_keys») (now «t_first») (now «t_next») (now «s_keys») ⌝ }
-    ensures { λ r. ⌜ Told (reading small (now (job .entry))) (now («e_keys» .exit)) (now («e_first» .exit)) (now («e_next» .exit)) (now («t_keys» .exit)) (now («t_first» .exit)) (now («t_next» .exit)) (now («s_keys» .exit)) r ⌝ }
+    requires { ⌜ Room (now «e_keys») (now «t_keys») (now «s_keys») (now «t_sides») (now «s_sides») ⌝ }
+    ensures { λ r. ⌜ Told (reading small (now (job .entry))) (now («e_keys» .exit)) (now («t_keys» .exit)) (now («s_keys» .exit)) (now («t_sides» .exit)) (now («s_sides» .exit)) r ⌝ }
 {
     if JobRead::BYTES < job.len() {
         return NumbersRead::refused(Verdict::TOO_LONG, 0);
@@ -318,12 +321,10 @@ pub fn read_numbers(
                     head,
                     10,
                     e_keys,
-                    e_first,
-                    e_next,
                     t_keys,
-                    t_first,
-                    t_next,
                     s_keys,
+                    t_sides,
+                    s_sides,
                 ),
             }
         }
@@ -335,21 +336,17 @@ pub fn read_job(job: &[u8]) -> JobRead
     ensures { λ r. ⌜ Outcome (reading small (now (job .entry))) r ⌝ }
 {
     let mut e_keys = [0u64; SimplexList::LIMIT];
-    let mut e_first = [0u16; BUCKETS];
-    let mut e_next = [0u16; SimplexList::LIMIT];
     let mut t_keys = [0u64; SimplexList::LIMIT];
-    let mut t_first = [0u16; BUCKETS];
-    let mut t_next = [0u16; SimplexList::LIMIT];
     let mut s_keys = [0u64; SimplexList::LIMIT];
+    let mut t_sides = [0u64; SimplexList::LIMIT];
+    let mut s_sides = [0u64; SimplexList::LIMIT];
     let read = read_numbers(
         job,
         &mut e_keys,
-        &mut e_first,
-        &mut e_next,
         &mut t_keys,
-        &mut t_first,
-        &mut t_next,
         &mut s_keys,
+        &mut t_sides,
+        &mut s_sides,
     );
     let verdict = read.verdict;
     match verdict {

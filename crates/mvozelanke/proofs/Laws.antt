@@ -37,8 +37,8 @@ module _ (job out work : List ℕ) where
     kept answer is put clear = answered room memory answer is (put-count put) (put-over put) clear
 
     -- what was read, and the arrays that hold it
-    module _ {eKeys eFirst eNext tKeys tFirst tNext sKeys : List ℕ} (r : NumbersRead)
-        (o : Told (reading small job) eKeys eFirst eNext tKeys tFirst tNext sKeys r) {count : ℕ} {after cleared : List ℕ} where
+    module _ {eKeys tKeys sKeys tSides sSides : List ℕ} (r : NumbersRead)
+        (o : Told (reading small job) eKeys tKeys sKeys tSides sSides r) {count : ℕ} {after cleared : List ℕ} where
       pub kept-refusal : (n p : ℕ) → r .verdict ≡ Refused n p → Put out 0 (refusalRecord n p) after count → cleared ≡ replicate (length work) 0
           → AnswerPromise small job out work count after cleared
       kept-refusal n p v put clear =
@@ -47,7 +47,7 @@ module _ (job out work : List ℕ) where
           put clear
 
       pub kept-answer : r .verdict ≡ Fine
-          → ((k : Asking r eKeys eFirst eNext tKeys tFirst tNext sKeys) → Answers (jobIn r eKeys tKeys sKeys (k .set)) out after count)
+          → ((k : Asking r eKeys tKeys sKeys tSides sSides) → Answers (jobIn r eKeys tKeys sKeys (k .set)) out after count)
           → cleared ≡ replicate (length work) 0 → AnswerPromise small job out work count after cleared
       unfolding told-asking
       kept-answer f answers clear =

@@ -1,6 +1,5 @@
 // The panel's calls: numbers and byte slices, no demands on the caller. Everything that matters stands below this crate. The
 // answer call lends the arrays in which a job's lists stay from reading to answer (crate `lent_lists`).
-use keys::BUCKETS;
 use lists::SimplexList;
 use lists::Verdict;
 ghost use Rattle.format.specs.Numbers.{small};
@@ -21,21 +20,17 @@ pub extern "C" fn mvz_answer(job: &[u8], out: &mut [u8], work: &mut [u8]) -> usi
         return 0;
     }
     let mut e_keys = [0u64; SimplexList::LIMIT];
-    let mut e_first = [0u16; BUCKETS];
-    let mut e_next = [0u16; SimplexList::LIMIT];
     let mut t_keys = [0u64; SimplexList::LIMIT];
-    let mut t_first = [0u16; BUCKETS];
-    let mut t_next = [0u16; SimplexList::LIMIT];
     let mut s_keys = [0u64; SimplexList::LIMIT];
+    let mut t_sides = [0u64; SimplexList::LIMIT];
+    let mut s_sides = [0u64; SimplexList::LIMIT];
     let read = jobs::read_numbers(
         job,
         &mut e_keys,
-        &mut e_first,
-        &mut e_next,
         &mut t_keys,
-        &mut t_first,
-        &mut t_next,
         &mut s_keys,
+        &mut t_sides,
+        &mut s_sides,
     );
     let verdict = read.verdict;
     match verdict {
@@ -50,12 +45,10 @@ pub extern "C" fn mvz_answer(job: &[u8], out: &mut [u8], work: &mut [u8]) -> usi
                 work,
                 read,
                 &e_keys,
-                &e_first,
-                &e_next,
                 &t_keys,
-                &t_first,
-                &t_next,
                 &s_keys,
+                &t_sides,
+                &s_sides,
             );
             columns::clear(work);
             count

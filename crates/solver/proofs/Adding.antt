@@ -1,17 +1,17 @@
 -- The loop that adds the facets of a simplex, one by one: what is in hand, together with the facets that are left, is
--- always what was in hand with all facets. A facet that is listed turns its rank over, another one stands for nothing. From
--- `top` on no rank was turned over, so there the boundary is what is left of it.
+-- always what was in hand with all facets. Each facet turns its rank over, which is the lowest digit of the sides of those
+-- that are left. From `top` on no rank was turned over, so there the boundary is what is left of it.
 use Prim.Native.Nat.{ℕ, zero, suc, _+_, _-_, _*_, _≤_, _<_}
 use native.Mathlib.Nat.{not-suc-le-zero}
 use native.Mathlib.Omega.{arith}
-use mathlib.Core.Path.{_≡_, refl, sym, ap, _∙_}
+use mathlib.Core.Path.{_≡_, refl, sym, ap, _∙_, subst}
 use mathlib.Core.Bool.{Bool}
 use mathlib.Core.List.{List, []}
 use lib.ListN.{length, getD}
-use Rattle.chains.specs.Chain.{Chain, differ, _⊕_, empty, Under}
+use Rattle.chains.specs.Chain.{Chain, differ, _⊕_, Under}
 use Rattle.chains.specs.Sum.{sum-assoc, sum-empty}
 use Rattle.chains.specs.Boundary.{under-unit}
-use Rattle.format.specs.Simplex.{Simplex, Rank, ranked, unlisted, rank, atRank, sumOver, simplexBoundary}
+use Rattle.format.specs.Simplex.{Simplex, ranked, rank, atRank, sumOver, simplexBoundary}
 use Rattle.format.specs.Reading.{without}
 use Rattle.format.specs.Listed.{rank-stands}
 use Rattle.format.specs.Facets.{falling, facetsBelow, facets-below}
@@ -19,48 +19,46 @@ use Rattle.columns.specs.Column.{flipped}
 use Rattle.columns.specs.ColumnLaws.{length-flipped}
 use Rattle.columns.specs.Slot.{chainR, chainV}
 use Rattle.columns.specs.PairLaws.{flipped-R, flipped-R-keeps}
-use Rattle.solver.specs.Columns.{MatrixIn, ColumnIn, AddsBoundary}
+use Rattle.lookup.specs.Sides.{Sides}
+use Rattle.solver.specs.Columns.{MatrixIn, AddsBoundary}
 
--- EACH COLUMN of a matrix has its facets among the rows.
-unfoldable pub column-in : {h size : ℕ} {keys first next cols : List ℕ} {m n i : ℕ} (k : MatrixIn h size keys first next m cols n)
-    → i < n → ColumnIn (getD cols i 0) size keys first next m
-column-in {i = i} k lt = record {
-  rows = k .rows;
-  simplex = getD (k .high) i [];
-  own = k .keyed .own i lt;
-  sized = k .wide .wide i (omega (arith, k .keyed .count));
-  least = k .least;
-  most = k .most;
-  below = k .below;
-}
+-- EACH COLUMN of a matrix has its sides, so what is said of all simplices with these sides is said of it.
+pub column-added : {h size m n i top : ℕ} {sides cur left : List ℕ} (k : MatrixIn h size m sides n) → i < n
+    → ((rows : List Simplex) (s : Simplex) → length s ≡ size → Sides rows s size (getD sides i 0) → AddsBoundary rows s cur left top)
+    → AddsBoundary (k .rows) (getD (k .high) i []) cur left top
+column-added {i = i} {sides = sides} k lt added =
+    added (k .rows) (getD (k .high) i []) (k .wide i lt)
+    (subst (λ (w : ℕ). Sides (k .rows) (getD (k .high) i []) w (getD sides i 0)) (k .wide i lt) (k .sided .own i lt))
 
 -- THE FACETS that are left, their sum.
 abbrev leftOver : List Simplex → Simplex → ℕ → Chain
 leftOver rows s left = sumOver (λ f. atRank (rank f rows)) (facetsBelow left s)
 
-pub record Adding (rows : List Simplex) (s : Simplex) (start cur : List ℕ) (left top : ℕ) : Type 0 where
+pub record Adding (rows : List Simplex) (s : Simplex) (start cur : List ℕ) (left sides top : ℕ) : Type 0 where
   pub long : length cur ≡ length start
-  pub few : left ≤ length s
+  pub sided : Sides rows s left sides
   pub rest : (h : ℕ) → length start ≡ 2 * h → length rows ≤ 8 * h
       → chainR h cur ⊕ leftOver rows s left ≡ chainR h start ⊕ simplexBoundary rows s
   pub keeps : (h : ℕ) → length start ≡ 2 * h → length rows ≤ 8 * h → chainV h cur ≡ chainV h start
   pub within : top ≤ length rows
   pub above : (i : ℕ) → top ≤ i → simplexBoundary rows s i ≡ leftOver rows s left i
 
-pub adding-start : (rows : List Simplex) (s : Simplex) (start : List ℕ) (left : ℕ) → left ≡ length s → Adding rows s start start left 0
-adding-start rows s start left e =
+pub adding-start : (rows : List Simplex) (s : Simplex) (start : List ℕ) (left sides : ℕ) → length s ≡ left → Sides rows s left sides
+    → Adding rows s start start left sides 0
+adding-start rows s start left sides e sided =
     let all : leftOver rows s left ≡ simplexBoundary rows s =
-    ap (sumOver (λ f. atRank (rank f rows))) (ap (λ n. facetsBelow n s) e ∙ sym (facets-below s)) in
+    ap (sumOver (λ f. atRank (rank f rows))) (ap (λ n. facetsBelow n s) (sym e) ∙ sym (facets-below s)) in
     record {
       long = refl;
-      few = omega arith;
+      sided = sided;
       rest = λ h long fits. ap (λ c. chainR h start ⊕ c) all;
       keeps = λ h long fits. refl;
       within = omega arith;
       above = λ i ge. ap (λ (c : Chain). c i) (sym all);
     }
 
-module _ {rows : List Simplex} {s : Simplex} {start cur : List ℕ} {left top : ℕ} (a : Adding rows s start cur left top) where
+module _ {rows : List Simplex} {s : Simplex} {start cur : List ℕ} {left sides top : ℕ}
+    (a : Adding rows s start cur left sides top) where
   pub adding-end : left ≤ 0 → AddsBoundary rows s start cur top
   unfolding falling sumOver
   adding-end none =
@@ -90,10 +88,11 @@ module _ {rows : List Simplex} {s : Simplex} {start cur : List ℕ} {left top : 
     adding-on : (after : List ℕ) (top′ : ℕ) → length after ≡ length cur
         → ((h : ℕ) → length cur ≡ 2 * h → length rows ≤ 8 * h → chainR h after ≡ chainR h cur ⊕ facetChain)
         → ((h : ℕ) → length cur ≡ 2 * h → length rows ≤ 8 * h → chainV h after ≡ chainV h cur)
-        → top ≤ top′ → top′ ≤ length rows → Under top′ facetChain → Adding rows s start after (left - 1) top′
-    adding-on after top′ long adds keeps up within none = record {
+        → top ≤ top′ → top′ ≤ length rows → Under top′ facetChain → {others : ℕ} → Sides rows s (left - 1) others
+        → Adding rows s start after (left - 1) others top′
+    adding-on after top′ long adds keeps up within none sided = record {
       long = long ∙ a .long;
-      few = omega (arith, a .few);
+      sided = sided;
       rest = λ h whole fits.
           ap (λ c. c ⊕ leftOver rows s (left - 1)) (adds h (a .long ∙ whole) fits)
           ∙ sum-assoc (chainR h cur) _ _
@@ -107,36 +106,26 @@ module _ {rows : List Simplex} {s : Simplex} {start cur : List ℕ} {left top : 
           ∙ ap (λ (b : Bool). differ b (leftOver rows s (left - 1) i)) (none i ge);
     }
 
-    -- the look-up of the facet at hand answered r
-    module _ {r : Rank} (facet-rank : r ≡ rank (without (left - 1) s) rows) where
-      pub adding-none : {after : List ℕ} → r ≡ unlisted → after ≡ cur → Adding rows s start after (left - 1) top
+    -- the facet at hand has rank i, as the last of the sides says
+    module _ {i others : ℕ} (taken : (rank (without (left - 1) s) rows ≡ ranked i) × Sides rows s (left - 1) others) where
+      rank-below : i < length rows
+      rank-below = rank-stands (without (left - 1) s) rows i (taken .0) .below
+
+      adding-flip : {after : List ℕ} (top′ : ℕ) → after ≡ flipped cur i → top ≤ top′ → i < top′ → top′ ≤ length rows
+          → Adding rows s start after (left - 1) others top′
       unfolding atRank
-      adding-none {after} out put =
-          let nothing : facetChain ≡ empty = ap atRank (sym facet-rank ∙ out) in
-          adding-on after top (ap length put)
-          (λ h whole fits. ap (chainR h) put ∙ sym (sum-empty (chainR h cur)) ∙ ap (λ c. chainR h cur ⊕ c) (sym nothing))
-          (λ h whole fits. ap (chainV h) put)
-          (omega arith) (a .within) (λ i ge. ap (λ (c : Chain). c i) nothing)
+      adding-flip {after} top′ put up past within =
+          let one = ap atRank (sym (taken .0)) in
+          adding-on after top′ (ap length put ∙ length-flipped cur i)
+          (λ h whole fits.
+          ap (chainR h) put ∙ flipped-R h cur whole i (omega (arith, rank-below)) ∙ ap (λ c. chainR h cur ⊕ c) one)
+          (λ h whole fits. ap (chainV h) put ∙ flipped-R-keeps h cur whole i (omega (arith, rank-below)))
+          up within
+          (λ j ge. ap (λ (c : Chain). c j) (sym one) ∙ under-unit i top′ past j ge) (taken .1)
 
-      module _ {i : ℕ} (in-list : r ≡ ranked i) where
-        pub rank-below : i < length rows
-        rank-below = rank-stands (without (left - 1) s) rows i (sym facet-rank ∙ in-list) .below
+      -- the rank is higher than those before it, or it is not
+      pub adding-higher : {after : List ℕ} → after ≡ flipped cur i → top ≤ i → Adding rows s start after (left - 1) others (i + 1)
+      adding-higher put le = adding-flip (i + 1) put (omega arith) (omega arith) (omega (arith, rank-below))
 
-        adding-flip : {after : List ℕ} (top′ : ℕ) → after ≡ flipped cur i → top ≤ top′ → i < top′ → top′ ≤ length rows
-            → Adding rows s start after (left - 1) top′
-        unfolding atRank
-        adding-flip {after} top′ put up past within =
-            let one = ap atRank (sym in-list ∙ facet-rank) in
-            adding-on after top′ (ap length put ∙ length-flipped cur i)
-            (λ h whole fits.
-            ap (chainR h) put ∙ flipped-R h cur whole i (omega (arith, rank-below)) ∙ ap (λ c. chainR h cur ⊕ c) one)
-            (λ h whole fits. ap (chainV h) put ∙ flipped-R-keeps h cur whole i (omega (arith, rank-below)))
-            up within
-            (λ j ge. ap (λ (c : Chain). c j) (sym one) ∙ under-unit i top′ past j ge)
-
-        -- the rank is higher than those before it, or it is not
-        pub adding-higher : {after : List ℕ} → after ≡ flipped cur i → top ≤ i → Adding rows s start after (left - 1) (i + 1)
-        adding-higher put le = adding-flip (i + 1) put (omega arith) (omega arith) (omega (arith, rank-below))
-
-        pub adding-lower : {after : List ℕ} → after ≡ flipped cur i → i < top → Adding rows s start after (left - 1) top
-        adding-lower put lt = adding-flip top put (omega arith) lt (a .within)
+      pub adding-lower : {after : List ℕ} → after ≡ flipped cur i → i < top → Adding rows s start after (left - 1) others top
+      adding-lower put lt = adding-flip top put (omega arith) lt (a .within)

@@ -1,5 +1,4 @@
 -- Lemmas of the proofs of this crate, one file for each loop.
-pub mod Ranking
 pub mod Adding
 pub mod Loading
 pub mod Marking

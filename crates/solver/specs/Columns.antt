@@ -1,47 +1,28 @@
--- Matrices as numbers in memory, building their columns in the pair of columns in hand, and putting them into the slots. The pair has 2·h bytes, for
--- whatever half size h that holds all ranks.
-use Prim.Native.Nat.{ℕ, _-_, _*_, _≤_, _<_}
+-- Matrices in memory, where each column is one number, the sides of its simplex; building the columns in the pair of columns
+-- in hand, and putting them into the slots. The pair has 2·h bytes, for whatever half size h that holds all ranks.
+use Prim.Native.Nat.{ℕ, _*_, _≤_, _<_}
 use mathlib.Core.Path.{_≡_}
 use mathlib.Core.Bool.{false}
-use mathlib.Core.List.{List}
+use mathlib.Core.List.{List, []}
 use lib.ListN.{length, getD, take}
 use Rattle.chains.specs.Chain.{Chain, _⊕_, empty, Under}
-use Rattle.format.specs.Simplex.{Simplex, vertexList, simplexBoundary, columns}
-use Rattle.lookup.specs.Indexed.{Proper, NumberOf, Keyed, Indexed}
+use Rattle.format.specs.Simplex.{Simplex, simplexBoundary, columns}
+use Rattle.lookup.specs.Sides.{Sided}
 use Rattle.columns.specs.Slot.{chainR, chainV}
 use Rattle.slots.specs.Slots.{SlotsIn}
 use Rattle.lists.specs.declared.Marks.{Marks}
 
--- the rows of a matrix in memory: vertices rank by number, and all other simplices are indexed by their numbers
-pub record RowsIn (width : ℕ) (rows : List Simplex) (keys first next : List ℕ) (m : ℕ) : Type 0 where
-  pub proper : Proper width rows
-  pub count : m ≡ length rows
-  pub vertices : width ≡ 1 → rows ≡ vertexList m
-  pub indexed : 1 < width → Indexed rows keys first next m
-
--- a matrix in memory: the columns' simplices, of `size` vertices, are given by their numbers, and the rows are the simplices
--- of one vertex less
-pub record MatrixIn (h size : ℕ) (keys first next : List ℕ) (m : ℕ) (cols : List ℕ) (n : ℕ) : Type 0 where
+-- a matrix in memory: the sides of the columns' simplices, of `size` vertices, among the m rows
+pub record MatrixIn (h size m : ℕ) (sides : List ℕ) (n : ℕ) : Type 0 where
   pub rows : List Simplex
   pub high : List Simplex
-  pub below : RowsIn (size - 1) rows keys first next m
-  pub wide : Proper size high
-  pub keyed : Keyed high cols n
-  pub least : 2 ≤ size
-  pub most : size ≤ 4
+  pub row-count : m ≡ length rows
+  pub count : n ≡ length high
+  pub wide : (i : ℕ) → i < n → length (getD high i []) ≡ size
+  pub sided : Sided rows high sides n
   pub few-rows : length rows ≤ 8 * h
   pub few-columns : length high ≤ 8 * h
-  pub room : n ≤ length cols
-
--- one column: the simplex that has a number, and the rows in which its facets are looked up
-pub record ColumnIn (number size : ℕ) (keys first next : List ℕ) (m : ℕ) : Type 0 where
-  pub rows : List Simplex
-  pub simplex : Simplex
-  pub own : NumberOf simplex number
-  pub sized : length simplex ≡ size
-  pub least : 2 ≤ size
-  pub most : size ≤ 4
-  pub below : RowsIn (size - 1) rows keys first next m
+  pub room : n ≤ length sides
 
 -- the boundary of s was added to the first half of the pair in hand, and it holds no row from `top` on
 pub record AddsBoundary (rows : List Simplex) (s : Simplex) (cur left : List ℕ) (top : ℕ) : Type 0 where

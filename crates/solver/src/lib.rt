@@ -1,75 +1,44 @@
 // The search for the smallest filling and the smallest chain of a class: the columns of a matrix are
-// put into the slots of the lent work memory, and the asked chain is reduced by them. Simplices come as
-// their numbers, and facets are looked up among those of the rows, `keys`, `first` and `next` (crate
-// `lookup`). `cur` is a lent pair of columns, 2·h bytes, and holds the answer at the end.
+// put into the slots of the lent work memory, and the asked chain is reduced by them. The simplices of the
+// columns come as their sides, numbers whose digits are the ranks of their facets among the m rows (crate
+// `lookup`), so nothing is looked up here. `cur` is a lent pair of columns, 2·h bytes, and holds the answer
+// at the end.
 ghost use mathlib.Core.Path.{_≡_};
 ghost use mathlib.Core.List.{List};
 ghost use Prim.Native.Nat.{_*_, _≤_, _<_};
 ghost use lib.ListN.{length};
 ghost use Rattle.columns.specs.Slot.{roomOf, chainR, chainV};
-ghost use Rattle.format.specs.Simplex.{Simplex, rank};
-ghost use Rattle.keys.specs.Chained.{Chained};
-ghost use Rattle.lists.specs.Meaning.{rankOf};
-ghost use Rattle.lookup.specs.Indexed.{NumberOf};
-ghost use Rattle.solver.specs.Columns.{RowsIn, MatrixIn, ColumnIn, AddsBoundary, Loads, Marked};
+ghost use Rattle.format.specs.Simplex.{Simplex};
+ghost use Rattle.lookup.specs.Sides.{Sides};
+ghost use Rattle.solver.specs.Columns.{MatrixIn, AddsBoundary, Loads, Marked};
 ghost use Rattle.solver.specs.Solved.{RimTold, Prepared, FillTold, ClassTold};
 use columns::Highest;
 use columns::clear;
 use columns::clear_front;
 use columns::flip;
 use columns::next_down;
-use lists::Found;
 use lists::Marks;
-use lookup::facet_number;
-use lookup::rank_of;
 use slots::Filled;
 use slots::class_in;
 use slots::fill_in;
 use slots::insert_column;
 use slots::start;
 
-// The rank of the simplex of `width` vertices that has a number, among the m rows: "vertices rank by
-// number", all others are looked up.
-fn row_of(keys: &[u64], first: &[u16], next: &[u16], m: usize, number: u64, width: usize) -> Found
-    requires { ⌜ 1 ≤ width ⌝ }
-    requires { ⌜ (1 < width → Chained (now keys) (now first) (now next) m) ⌝ }
-    ensures { λ r. ⌜ ((s : Simplex) → NumberOf s number → length s ≡ width → (rows : List Simplex) → RowsIn width rows (now (keys .entry)) (now (first .entry)) (now (next .entry)) m → rankOf r ≡ rank s rows) ⌝ }
-{
-    if width == 1 {
-        if number < m as u64 {
-            return Found::At(number as usize);
-        }
-        return Found::Missing;
-    }
-    rank_of(keys, first, next, m, number)
-}
-
-// Adds the boundary of the simplex of `size` vertices that has a number to the chain of rows in hand:
-// its facets are looked up among the rows. Says from which row on the boundary holds none, so that no
-// search begins higher.
-pub fn add_boundary(
-    cur: &mut [u8],
-    keys: &[u64],
-    first: &[u16],
-    next: &[u16],
-    m: usize,
-    number: u64,
-    size: usize,
-) -> usize
-    requires { ⌜ ColumnIn number size (now keys) (now first) (now next) m ⌝ }
-    ensures { λ top. ⌜ ((k : ColumnIn number size (now (keys .entry)) (now (first .entry)) (now (next .entry)) m) → AddsBoundary (k .rows) (k .simplex) (now (cur .entry)) (now (cur .exit)) top) ⌝ }
+// Adds the boundary of the simplex of `size` vertices that has these sides to the chain of rows in hand.
+// Says from which row on the boundary holds none, so that no search begins higher.
+pub fn add_boundary(cur: &mut [u8], sides: u64, size: usize) -> usize
+    ensures { λ top. ⌜ ((rows : List Simplex) (s : Simplex) → length s ≡ size → Sides rows s size sides → AddsBoundary rows s (now (cur .entry)) (now (cur .exit)) top) ⌝ }
 {
     let mut top = 0;
+    let mut rest = sides;
     let mut left = size;
     while 0 < left {
         left -= 1;
-        let facet = facet_number(number, left);
-        let found = row_of(keys, first, next, m, facet, size - 1);
-        if let Found::At(i) = found {
-            flip(cur, i);
-            if top <= i {
-                top = i + 1;
-            }
+        let i = (rest % 65536) as usize;
+        rest = rest / 65536;
+        flip(cur, i);
+        if top <= i {
+            top = i + 1;
         }
     }
     top
@@ -79,19 +48,16 @@ pub fn add_boundary(
 pub fn load(
     work: &mut [u8],
     cur: &mut [u8],
-    keys: &[u64],
-    first: &[u16],
-    next: &[u16],
     m: usize,
-    cols: &[u64],
+    sides: &[u64],
     n: usize,
     size: usize,
     h: usize,
 )
-    requires { ⌜ MatrixIn h size (now keys) (now first) (now next) m (now cols) n ⌝ }
+    requires { ⌜ MatrixIn h size m (now sides) n ⌝ }
     requires { ⌜ roomOf h ≤ length (now work) ⌝ }
     requires { ⌜ length (now cur) ≡ 2 * h ⌝ }
-    ensures { λ _. ⌜ ((k : MatrixIn h size (now (keys .entry)) (now (first .entry)) (now (next .entry)) m (now (cols .entry)) n) → Loads h (k .rows) (k .high) m (now (work .exit))) ⌝ }
+    ensures { λ _. ⌜ ((k : MatrixIn h size m (now (sides .entry)) n) → Loads h (k .rows) (k .high) m (now (work .exit))) ⌝ }
 {
     start(work, h, m);
     let mut i = 0;
@@ -99,7 +65,7 @@ pub fn load(
         let rank = i;
         i += 1;
         clear_front(cur, 2 * h);
-        let top = add_boundary(cur, keys, first, next, m, cols[rank], size);
+        let top = add_boundary(cur, sides[rank], size);
         flip(cur, 8 * h + rank);
         insert_column(work, cur, h, top);
     }
@@ -120,30 +86,27 @@ pub fn mark(cur: &mut [u8], marks: Marks, m: usize)
     }
 }
 
-// Whether the boundary of the marked chain is empty: the n simplices `rows` have `size` vertices each,
-// and their facets are among the m simplices of `keys`.
+// Whether the boundary of the marked chain is empty: it is a chain of n simplices of `size` vertices each,
+// whose facets are among m.
 pub fn rim_closed(
     cur: &mut [u8],
-    keys: &[u64],
-    first: &[u16],
-    next: &[u16],
     m: usize,
-    rows: &[u64],
+    sides: &[u64],
     n: usize,
     size: usize,
     marks: Marks,
     h: usize,
 ) -> bool
-    requires { ⌜ MatrixIn h size (now keys) (now first) (now next) m (now rows) n ⌝ }
+    requires { ⌜ MatrixIn h size m (now sides) n ⌝ }
     requires { ⌜ n ≤ 512 ⌝ }
     requires { ⌜ length (now cur) ≡ 2 * h ⌝ }
-    ensures { λ r. ⌜ ((k : MatrixIn h size (now (keys .entry)) (now (first .entry)) (now (next .entry)) m (now (rows .entry)) n) → RimTold (k .rows) (k .high) marks r) ⌝ }
+    ensures { λ r. ⌜ ((k : MatrixIn h size m (now (sides .entry)) n) → RimTold (k .rows) (k .high) marks r) ⌝ }
 {
     clear(cur);
     let mut i = 0;
     while i < n {
         if marks.on[i] {
-            add_boundary(cur, keys, first, next, m, rows[i], size);
+            add_boundary(cur, sides[i], size);
         }
         i += 1;
     }
@@ -158,23 +121,20 @@ pub fn rim_closed(
 fn prepare(
     work: &mut [u8],
     cur: &mut [u8],
-    keys: &[u64],
-    first: &[u16],
-    next: &[u16],
     m: usize,
-    cols: &[u64],
+    sides: &[u64],
     n: usize,
     size: usize,
     marks: Marks,
     h: usize,
 )
-    requires { ⌜ MatrixIn h size (now keys) (now first) (now next) m (now cols) n ⌝ }
+    requires { ⌜ MatrixIn h size m (now sides) n ⌝ }
     requires { ⌜ m ≤ 512 ⌝ }
     requires { ⌜ roomOf h ≤ length (now work) ⌝ }
     requires { ⌜ length (now cur) ≡ 2 * h ⌝ }
-    ensures { λ _. ⌜ ((k : MatrixIn h size (now (keys .entry)) (now (first .entry)) (now (next .entry)) m (now (cols .entry)) n) → Prepared h (k .rows) (k .high) marks m (now (work .exit)) (now (cur .exit))) ⌝ }
+    ensures { λ _. ⌜ ((k : MatrixIn h size m (now (sides .entry)) n) → Prepared h (k .rows) (k .high) marks m (now (work .exit)) (now (cur .exit))) ⌝ }
 {
-    load(work, cur, keys, first, next, m, cols, n, size, h);
+    load(work, cur, m, sides, n, size, h);
     mark(cur, marks, m);
 }
 
@@ -183,23 +143,20 @@ fn prepare(
 pub fn fill(
     work: &mut [u8],
     cur: &mut [u8],
-    keys: &[u64],
-    first: &[u16],
-    next: &[u16],
     m: usize,
-    cols: &[u64],
+    sides: &[u64],
     n: usize,
     size: usize,
     marks: Marks,
     h: usize,
 ) -> Filled
-    requires { ⌜ MatrixIn h size (now keys) (now first) (now next) m (now cols) n ⌝ }
+    requires { ⌜ MatrixIn h size m (now sides) n ⌝ }
     requires { ⌜ m ≤ 512 ⌝ }
     requires { ⌜ roomOf h ≤ length (now work) ⌝ }
     requires { ⌜ length (now cur) ≡ 2 * h ⌝ }
-    ensures { λ r. ⌜ ((k : MatrixIn h size (now (keys .entry)) (now (first .entry)) (now (next .entry)) m (now (cols .entry)) n) → FillTold (k .rows) (k .high) marks r (chainV h (now (cur .exit)))) ⌝ }
+    ensures { λ r. ⌜ ((k : MatrixIn h size m (now (sides .entry)) n) → FillTold (k .rows) (k .high) marks r (chainV h (now (cur .exit)))) ⌝ }
 {
-    prepare(work, cur, keys, first, next, m, cols, n, size, marks, h);
+    prepare(work, cur, m, sides, n, size, marks, h);
     fill_in(cur, work, h, m)
 }
 
@@ -207,22 +164,19 @@ pub fn fill(
 pub fn class(
     work: &mut [u8],
     cur: &mut [u8],
-    keys: &[u64],
-    first: &[u16],
-    next: &[u16],
     m: usize,
-    cols: &[u64],
+    sides: &[u64],
     n: usize,
     size: usize,
     marks: Marks,
     h: usize,
 )
-    requires { ⌜ MatrixIn h size (now keys) (now first) (now next) m (now cols) n ⌝ }
+    requires { ⌜ MatrixIn h size m (now sides) n ⌝ }
     requires { ⌜ m ≤ 512 ⌝ }
     requires { ⌜ roomOf h ≤ length (now work) ⌝ }
     requires { ⌜ length (now cur) ≡ 2 * h ⌝ }
-    ensures { λ _. ⌜ ((k : MatrixIn h size (now (keys .entry)) (now (first .entry)) (now (next .entry)) m (now (cols .entry)) n) → ClassTold (k .rows) (k .high) marks (chainR h (now (cur .exit)))) ⌝ }
+    ensures { λ _. ⌜ ((k : MatrixIn h size m (now (sides .entry)) n) → ClassTold (k .rows) (k .high) marks (chainR h (now (cur .exit)))) ⌝ }
 {
-    prepare(work, cur, keys, first, next, m, cols, n, size, marks, h);
+    prepare(work, cur, m, sides, n, size, marks, h);
     class_in(cur, work, h, m);
 }

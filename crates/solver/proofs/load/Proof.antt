@@ -8,29 +8,29 @@ use native.Mathlib.Omega.{arith}
 use Rattle.columns.specs.Slot.{roomOf}
 use Rattle.columns.specs.PairLaws.{front-all}
 use Rattle.solver.specs.Columns.{MatrixIn}
-use Rattle.solver.proofs.Adding.{column-in}
+use Rattle.solver.proofs.Adding.{column-added}
 use Rattle.solver.proofs.Loading.{Loading, loading-start, loading-on, loading-end, halves-fit}
 use borrow.Author.Needs.{needs}
 use Rattle.solver.proofs.load.Statement.{statement}
 use Rattle.solver.proofs.load.Tie as tie
 
 abbrev Inv-loop : tie.InvT-loop
-Inv-loop work₀ cur₀ keys first next m cols n size h i₀ work cur i =
-    (k : MatrixIn h size keys first next m cols n) → Loading h (k .rows) (k .high) i work₀ work cur
+Inv-loop work₀ cur₀ m sides n size h i₀ work cur i =
+    (k : MatrixIn h size m sides n) → Loading h (k .rows) (k .high) i work₀ work cur
 
 abbrev μ-loop : tie.MeasureT-loop
-μ-loop work₀ cur₀ keys first next m cols n size h i₀ work cur i = n - i
+μ-loop work₀ cur₀ m sides n size h i₀ work cur i = n - i
 
 start-requires : tie.Need-start-requires Inv-loop μ-loop
 start-requires c κs =
-    let known = c .before .before .before .before .before .before .before .pre in
-    (omega (arith, known .0 .below .count, known .0 .few-rows), known .1 .0)
+    let known = c .before .before .before .before .pre in
+    (omega (arith, known .0 .row-count, known .0 .few-rows), known .1 .0)
 
 loop-holds : tie.Need-loop-holds Inv-loop μ-loop
 loop-holds c = λ k.
     let emptied = c .before .before in
-    let start = emptied .before .before .before .before .before .before .before .before in
-    loading-start (k .below .count) (emptied .start .ensures) refl (start .pre .1 .1)
+    let start = emptied .before .before .before .before .before in
+    loading-start (k .row-count) (emptied .start .ensures) refl (start .pre .1 .1)
 
 -- what was known before the loop
 module _ (p : tie.At-loop Inv-loop μ-loop) where
@@ -38,7 +38,7 @@ module _ (p : tie.At-loop Inv-loop μ-loop) where
   emptied = p .before .before .before
 
   abbrev begin : tie.Start Inv-loop μ-loop
-  begin = emptied .before .before .before .before .before .before .before .before
+  begin = emptied .before .before .before .before .before
 
   -- what the invariant says of the lengths: it holds of the matrix at hand
   same-lengths : (length (p .loop .work) ≡ length (begin .args .work .now)) × (length (p .loop .cur) ≡ 2 * begin .args .h)
@@ -50,7 +50,7 @@ module _ (c : tie.In-loop Inv-loop μ-loop) where
   lent = begin (c .before)
 
   in-half : c .before .loop .i < 8 * lent .args .h
-  in-half = omega (arith, c .loop-test .taken, lent .pre .0 .keyed .count, lent .pre .0 .few-columns)
+  in-half = omega (arith, c .loop-test .taken, lent .pre .0 .count, lent .pre .0 .few-columns)
 
   bits-low : 8 * lent .args .h + 8 * lent .args .h < 2 ^ 64
   bits-low =
@@ -75,9 +75,7 @@ shared-slice-read-add-boundary c =
     omega (arith, turn .loop-test .taken, lent turn .pre .0 .room)
 
 add-boundary-requires : tie.Need-add-boundary-requires Inv-loop μ-loop
-add-boundary-requires c κs =
-    let turn = c .before .before .before .before .before .before in
-    column-in (lent turn .pre .0) (turn .loop-test .taken)
+add-boundary-requires c κs = search needs
 
 mul-flip : tie.Need-mul-flip Inv-loop μ-loop
 mul-flip c = record { fits = omega (arith, bits-low (c .before .before .before .before .before .before .before .before .before .before)) }
@@ -91,14 +89,13 @@ flip-requires : tie.Need-flip-requires Inv-loop μ-loop
 flip-requires c κs = search needs
 
 insert-column-requires : tie.Need-insert-column-requires Inv-loop μ-loop
-unfolding column-in
 insert-column-requires c κs =
     let flipped = c .before .before .before .before in
     let added = flipped .before .before .before .before in
     let cleared = added .before .before .before .before .before in
     let turn = cleared .before .before in
     let start = lent turn in
-    let boundary = added .add-boundary .ensures (column-in (start .pre .0) (turn .loop-test .taken)) in (
+    let boundary = column-added (start .pre .0) (turn .loop-test .taken) (added .add-boundary .ensures) in (
       le-trans (boundary .within) (start .pre .0 .few-rows),
       (
         subst (λ n. roomOf (start .args .h) ≤ n) (sym (same-lengths (turn .before) .0)) (start .pre .1 .0),
@@ -110,7 +107,6 @@ loop-less : tie.Need-loop-less Inv-loop μ-loop
 loop-less c = search needs
 
 loop-again : tie.Need-loop-again Inv-loop μ-loop
-unfolding column-in
 loop-again c = λ k.
     let put = c .before .before .before .before in
     let flipped = put .before .before .before .before .before in
@@ -119,8 +115,8 @@ loop-again c = λ k.
     let turn = cleared .before .before in
     let lt = turn .loop-test .taken in
     loading-on (turn .before .loop .inv k) (k .few-rows) (in-half turn)
-    (cleared .clear-front .ensures ∙ front-all _ _ (same-lengths (turn .before) .1)) (added .add-boundary .ensures (column-in k lt))
-    (added .add-boundary .kept .0) (flipped .flip .ensures) (omega (arith, lt, k .keyed .count))
+    (cleared .clear-front .ensures ∙ front-all _ _ (same-lengths (turn .before) .1)) (column-added k lt (added .add-boundary .ensures))
+    (added .add-boundary .kept .0) (flipped .flip .ensures) (omega (arith, lt, k .count))
     (put .insert-column .ensures) (put .insert-column .kept .0) (put .insert-column .kept .1 .0)
 
 same-length : tie.Need-same-length Inv-loop μ-loop
@@ -131,7 +127,7 @@ same-length-2 c = same-lengths (c .before) .1 ∙ sym (begin (c .before) .pre .1
 
 returns : tie.Need-returns Inv-loop μ-loop
 returns c = λ k.
-    loading-end (c .before .loop .inv k) (k .below .count) (omega (arith, c .loop-test .left, k .keyed .count))
+    loading-end (c .before .loop .inv k) (k .row-count) (omega (arith, c .loop-test .left, k .count))
 
 pub load-spec : {M : Type 1} → statement M
 load-spec =

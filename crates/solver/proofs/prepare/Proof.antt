@@ -22,7 +22,7 @@ returns : tie.Need-returns
 returns c = λ k.
     let marked = c .before .before in
     let loaded = marked .before .before .before .before .before .before in
-    let start = loaded .before .before .before .before .before .before .before .before .before in
+    let start = loaded .before .before .before .before .before .before in
     prepared _ _ _ _ (k .few-rows) (loaded .load .kept .1 .0 ∙ start .pre .1 .1 .1) (loaded .load .ensures k) (marked .mark .ensures)
 
 pub prepare-spec : {M : Type 1} → statement M

@@ -6,18 +6,18 @@ use mathlib.Core.Logic.{⊎-elim}
 use native.Mathlib.Omega.{arith}
 use lib.ListN.{length}
 use Rattle.solver.specs.Columns.{MatrixIn}
-use Rattle.solver.proofs.Adding.{column-in}
+use Rattle.solver.proofs.Adding.{column-added}
 use Rattle.solver.proofs.Rimming.{Rimming, rimming-start, rimming-skip, rimming-add, rim-empty, rim-open}
 use borrow.Author.Needs.{needs}
 use Rattle.solver.proofs.rim_closed.Statement.{statement}
 use Rattle.solver.proofs.rim_closed.Tie as tie
 
 abbrev Inv-loop : tie.InvT-loop
-Inv-loop cur₀ keys first next m rows n size h marks i₀ cur i =
-    (k : MatrixIn h size keys first next m rows n) → Rimming (k .rows) (k .high) marks h i cur
+Inv-loop cur₀ m sides n size h marks i₀ cur i =
+    (k : MatrixIn h size m sides n) → Rimming (k .rows) (k .high) marks h i cur
 
 abbrev μ-loop : tie.MeasureT-loop
-μ-loop cur₀ keys first next m rows n size h marks i₀ cur i = n - i
+μ-loop cur₀ m sides n size h marks i₀ cur i = n - i
 
 clear-requires : tie.Need-clear-requires Inv-loop μ-loop
 clear-requires c κs = search needs
@@ -25,18 +25,17 @@ clear-requires c κs = search needs
 loop-holds : tie.Need-loop-holds Inv-loop μ-loop
 loop-holds c = λ k.
     let done = c .before .before in
-    let start = done .before .before .before .before .before .before .before in
+    let start = done .before .before .before .before in
     rimming-start _ _ _ _ (length (start .args .cur .now)) _ (done .clear .ensures) (done .clear .kept .0 ∙ start .pre .1 .1)
 
 -- what was known before the loop
 module _ (p : tie.At-loop Inv-loop μ-loop) where
   abbrev begin : tie.Start Inv-loop μ-loop
-  begin = p .before .before .before .before .before .before .before .before .before .before
+  begin = p .before .before .before .before .before .before .before
 
   abbrev Matrix : Type 0
   Matrix =
-      MatrixIn (begin .args .h) (begin .args .size) (begin .args .keys .now) (begin .args .first .now) (begin .args .next .now)
-      (begin .args .m) (begin .args .rows .now) (begin .args .n)
+      MatrixIn (begin .args .h) (begin .args .size) (begin .args .m) (begin .args .sides .now) (begin .args .n)
 
   whole : length (p .loop .cur) ≡ length (begin .args .cur .now)
   whole = p .loop .inv (begin .pre .0) .whole ∙ sym (begin .pre .1 .1)
@@ -53,9 +52,7 @@ shared-slice-read-add-boundary c =
     omega (arith, turn .loop-test .taken, begin (turn .before) .pre .0 .room)
 
 add-boundary-requires : tie.Need-add-boundary-requires Inv-loop μ-loop
-add-boundary-requires c κs =
-    let turn = c .before .before .before .before in
-    column-in (begin (turn .before) .pre .0) (turn .loop-test .taken)
+add-boundary-requires c κs = search needs
 
 add-i : tie.Need-add-i Inv-loop μ-loop
 add-i c = search needs
@@ -64,13 +61,12 @@ loop-less : tie.Need-loop-less Inv-loop μ-loop
 loop-less c = search needs
 
 loop-again : tie.Need-loop-again Inv-loop μ-loop
-unfolding column-in
 loop-again c = λ k.
     let turn = c .before .before in
     let a = turn .before .loop .inv k in
-    let lt : turn .before .loop .i < length (k .high) = omega (arith, turn .loop-test .taken, k .keyed .count) in
+    let lt : turn .before .loop .i < length (k .high) = omega (arith, turn .loop-test .taken, k .count) in
     ⊎-elim
-    (λ w. rimming-add _ _ _ _ a lt (w .0 .taken) (k .few-rows) (w .3 .ensures (column-in k (turn .loop-test .taken)))
+    (λ w. rimming-add _ _ _ _ a lt (w .0 .taken) (k .few-rows) (column-added k (turn .loop-test .taken) (w .3 .ensures))
     (w .3 .kept .0) (w .6))
     (λ w. rimming-skip _ _ _ _ a lt (w .0 .left) (w .1))
     (c .if1 .came)
@@ -86,7 +82,7 @@ enum-told-2 c = search needs
 
 -- no row is left
 rows-end : (c : tie.After-loop Inv-loop μ-loop) (k : Matrix (c .before)) → length (k .high) ≤ c .before .loop .i
-rows-end c k = omega (arith, c .loop-test .left, k .keyed .count)
+rows-end c k = omega (arith, c .loop-test .left, k .count)
 
 same-length : tie.Need-same-length Inv-loop μ-loop
 same-length c = whole (c .before .before .before .before .before)
@@ -94,7 +90,7 @@ same-length c = whole (c .before .before .before .before .before)
 returns : tie.Need-returns Inv-loop μ-loop
 returns c = λ k.
     let end = c .before .before .before .before in
-    rim-open _ _ _ _ (end .before .loop .inv k) (rows-end end k) (k .few-rows) (k .below .count)
+    rim-open _ _ _ _ (end .before .loop .inv k) (rows-end end k) (k .few-rows) (k .row-count)
     (c .before .before .next-down .ensures) (c .enum-told .given .1)
 
 same-length-2 : tie.Need-same-length-2 Inv-loop μ-loop
@@ -103,7 +99,7 @@ same-length-2 c = whole (c .before .before .before .before .before)
 returns-2 : tie.Need-returns-2 Inv-loop μ-loop
 returns-2 c = λ k.
     let end = c .before .before .before .before in
-    rim-empty _ _ _ _ (end .before .loop .inv k) (rows-end end k) (k .few-rows) (k .below .count)
+    rim-empty _ _ _ _ (end .before .loop .inv k) (rows-end end k) (k .few-rows) (k .row-count)
     (c .before .before .next-down .ensures) (c .enum-told2 .given .1)
 
 pub rim-closed-spec : {M : Type 1} → statement M
