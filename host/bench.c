@@ -125,7 +125,7 @@ static void print_heading(unsigned rounds)
            "plain C  the checker's reading and elimination\n"
            "PHAT     its reduction alone, of the triangles' boundaries, as the library's;\n"
            "         the better of standard and twist\n"
-           "whole    the same of the whole complex, edges too, as PHAT's own program takes it\n"
+           "whole    the same with all cells as columns, as PHAT's boundary matrices have them\n"
            "growth   the library's time over its time one row up\n\n",
            rounds);
     printf("%-16s %4s %5s %8s %7s %8s %7s %7s %6s %8s %9s %7s\n", "shape", "tri", "edges",

@@ -13,7 +13,7 @@ enum phat_way { PHAT_STANDARD, PHAT_TWIST };
 /*
  * PHAT_ASKED has what the library reduces: the triangles' boundaries, in rows of
  * edges.  PHAT_WHOLE has the edges' boundaries too, in rows of vertices: the matrix
- * of the whole complex, as PHAT's own program takes it.
+ * of the whole complex, with all cells as columns.
  */
 enum phat_matrix { PHAT_ASKED, PHAT_WHOLE };
 

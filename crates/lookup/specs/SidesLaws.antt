@@ -170,6 +170,20 @@ sided-more {faces} {l} {sides} {n} {k} a room new = record { own = own }
           subst (Sides faces (getD l i []) (length (getD l i []))) (sym (getD-set-other sides n i k 0 other)) (a .own i (omega arith))
     ]
 
+-- and of a list that grows by one simplex
+pub sided-longer : {faces l : List Simplex} (s : Simplex) {sides : List ℕ} {n k : ℕ} → Sided faces l sides n → n ≡ length l
+    → n < length sides → Sides faces s (length s) k → Sided faces (l ++ (s ∷ [])) (set sides n k) (suc n)
+sided-longer {faces} {l} s {sides} {n} {k} a all room new =
+    sided-more {l = l ++ (s ∷ [])} {sides = sides} (record { own = old }) room (subst (λ (t : Simplex). Sides faces t (length t) k) (sym seam) new)
+  where
+    seam : getD (l ++ (s ∷ [])) n [] ≡ s
+    seam = ap (λ (j : ℕ). getD (l ++ (s ∷ [])) j []) all ∙ getD-append-seam l s [] []
+
+    old : (i : ℕ) → i < n → Sides faces (getD (l ++ (s ∷ [])) i []) (length (getD (l ++ (s ∷ [])) i [])) (getD sides i 0)
+    old i lt =
+        subst (λ (t : Simplex). Sides faces t (length t) (getD sides i 0)) (sym (List·getD-append l (s ∷ []) [] i (omega arith)))
+        (a .own i lt)
+
 -- THE LOOP over a list: the sides of its first i simplices are found.
 pub record SidesFound (faceKeys : List ℕ) (m : ℕ) (keys : List ℕ) (n width : ℕ) (sides₀ sides : List ℕ) (i : ℕ) : Type 0 where
   pub within : i ≤ n

@@ -1,21 +1,18 @@
-// The reader of a list: one function for edges, triangles and tetrahedra, which differ in the number of vertices. Each item
-// is looked up by its number, so the lists themselves are neither gone through nor copied.
+// The reader of a list: one function for edges, triangles and tetrahedra, which differ in the number of vertices. An item is
+// its number, which is looked up, so that the lists are neither gone through nor copied; the ranks of its facets, which the
+// look-up finds, are kept as its sides.
 ghost use mathlib.Core.Path.{_≡_};
-ghost use mathlib.Core.Bool.{not, cond};
 ghost use mathlib.Core.List.{List};
-ghost use Prim.Native.Nat.{_-_};
-ghost use lib.ListN.{length};
-ghost use Rattle.format.specs.Numbers.{vertex, twice, face};
-ghost use Rattle.format.specs.Simplex.{soundSimplex, listed, allListed};
+ghost use Prim.Native.Nat.{_+_, _≤_, _<_};
+ghost use lib.ListN.{length, getD, set, take, drop};
+ghost use Rattle.format.specs.Simplex.{soundSimplex, listed};
 ghost use Rattle.format.specs.Simplex as format;
-ghost use Rattle.format.specs.Reading.{owedFacets};
-ghost use Rattle.lists.specs.Meaning.{verticesOf};
 ghost use Rattle.keys.specs.Chained.{Chained};
-ghost use Rattle.lookup.specs.Indexed.{Keyed, Proper, Blank};
-ghost use Rattle.reading_lists.specs.Items.{Judged, ItemsTold, Shaped};
+ghost use Rattle.lookup.specs.Indexed.{NumberOf, Keyed, Proper, Blank};
+ghost use Rattle.reading_lists.specs.Items.{JudgedSo, ItemsTold, Shaped};
 use lists::Found;
-use lists::Simplex;
 use lists::Verdict;
+use lookup::Facets;
 
 // What reading a list comes to: how many items are entered. Where it was refused, the items before are.
 pub struct ItemsRead {
@@ -23,15 +20,39 @@ pub struct ItemsRead {
     pub count: usize,
 }
 
-// Whether the vertices rise strictly and are all below v.
-fn sound(s: Simplex, v: u16) -> bool
-    ensures { λ r. ⌜ r ≡ soundSimplex v (verticesOf s) ⌝ }
+// The vertex at a place of the simplex that `width` bytes from `at` on spell, 0 past the last.
+fn vertex_at(p: &[u8], at: usize, width: usize, place: usize) -> u64
+    requires { ⌜ at + width ≤ length (now p) ⌝ }
+    ensures { λ r. ⌜ (r ≡ getD (take width (drop at (now (p .entry)))) place 0) × (r < 65536) ⌝ }
 {
-    let size = s.size();
+    if place < width {
+        p[at + place] as u64
+    } else {
+        0
+    }
+}
+
+// The number of the simplex that `width` bytes from `at` on spell.
+fn number_at(p: &[u8], at: usize, width: usize) -> u64
+    requires { ⌜ (width ≤ 4) × (at + width ≤ length (now p)) ⌝ }
+    ensures { λ r. ⌜ NumberOf (take width (drop at (now (p .entry)))) r ⌝ }
+{
+    let a = vertex_at(p, at, width, 0);
+    let b = vertex_at(p, at, width, 1);
+    let c = vertex_at(p, at, width, 2);
+    let d = vertex_at(p, at, width, 3);
+    a + 65536 * (b + 65536 * (c + 65536 * d))
+}
+
+// Whether the vertices rise strictly and are all below v.
+fn sound_at(p: &[u8], at: usize, width: usize, v: u16) -> bool
+    requires { ⌜ at + width ≤ length (now p) ⌝ }
+    ensures { λ r. ⌜ r ≡ soundSimplex v (take width (drop at (now (p .entry)))) ⌝ }
+{
     let mut least: u16 = 0;
     let mut i = 0;
-    while i < size {
-        let a = s.vertices[i];
+    while i < width {
+        let a = p[at + i] as u16;
         if a < least {
             return false;
         }
@@ -44,53 +65,26 @@ fn sound(s: Simplex, v: u16) -> bool
     true
 }
 
-// Whether a simplex is entered already.
-fn entered(keys: &[u64], first: &[u16], next: &[u16], n: usize, s: Simplex) -> bool
+// Whether the simplex that has a number is entered already.
+fn entered(keys: &[u64], first: &[u16], next: &[u16], n: usize, number: u64) -> bool
     requires { ⌜ Chained (now keys) (now first) (now next) n ⌝ }
-    ensures { λ r. ⌜ ((l : List format.Simplex) → Proper (length (verticesOf s)) l → Keyed l (now (keys .entry)) n → r ≡ listed (verticesOf s) l) ⌝ }
+    ensures { λ r. ⌜ ((s : format.Simplex) → NumberOf s number → (l : List format.Simplex) → Proper (length s) l → Keyed l (now (keys .entry)) n → r ≡ listed s l) ⌝ }
 {
-    let found = lookup::find(keys, first, next, n, s);
+    let found = lookup::rank_of(keys, first, next, n, number);
     match found {
         Found::At(_) => true,
         Found::Missing => false,
     }
 }
 
-// Whether a simplex lacks a facet: an edge's are vertices, which rule 6 has settled.
-fn lacks_facet(
-    keys: &[u64],
-    first: &[u16],
-    next: &[u16],
-    n: usize,
-    s: Simplex,
-    width: usize,
-) -> bool
-    requires { ⌜ Chained (now keys) (now first) (now next) n ⌝ }
-    ensures { λ r. ⌜ ((faces : List format.Simplex) → Proper (width - 1) faces → Keyed faces (now (keys .entry)) n → length (verticesOf s) ≡ width → r ≡ not (allListed (owedFacets width (verticesOf s)) faces)) ⌝ }
-{
-    if width <= 2 {
-        return false;
-    }
-    !lookup::facets_listed(keys, first, next, n, s)
+// What judging an item comes to: its sides, which of an edge are its own number, or the refusal.
+pub enum Judged {
+    Sound(u64),
+    Refused(u16),
 }
 
-// The first of 6 vertex, 7 twice and 8 face that holds, or 0.
-fn first_refusal(unsound: bool, repeated: bool, lacking: bool) -> u16
-    ensures { λ r. ⌜ r ≡ cond unsound vertex (cond repeated twice (cond lacking face 0)) ⌝ }
-{
-    if unsound {
-        return Verdict::VERTEX;
-    }
-    if repeated {
-        return Verdict::TWICE;
-    }
-    if lacking {
-        return Verdict::FACE;
-    }
-    0
-}
-
-// The first refusal that an item meets behind the n items entered, over the m faces entered, or 0.
+// The item at a place, which has a number, behind the n items entered, over the m faces entered: the first of 6 vertex,
+// 7 twice and 8 face that it meets. An edge's facets are vertices, which rule 6 has settled.
 fn judge(
     keys: &[u64],
     first: &[u16],
@@ -100,22 +94,46 @@ fn judge(
     face_first: &[u16],
     face_next: &[u16],
     m: usize,
-    s: Simplex,
+    p: &[u8],
+    at: usize,
+    number: u64,
     v: u16,
     width: usize,
-) -> u16
+) -> Judged
     requires { ⌜ Chained (now keys) (now first) (now next) n ⌝ }
     requires { ⌜ Chained (now «face_keys») (now «face_first») (now «face_next») m ⌝ }
-    ensures { λ r. ⌜ Judged (now (keys .entry)) n (now («face_keys» .entry)) m (verticesOf s) v width r ⌝ }
+    requires { ⌜ (width ≤ 4) × (m ≤ 65536) × (at + width ≤ length (now p)) ⌝ }
+    requires { ⌜ NumberOf (take width (drop at (now p))) number ⌝ }
+    ensures { λ r. ⌜ JudgedSo (now (keys .entry)) n (now («face_keys» .entry)) m (take width (drop at (now (p .entry)))) v width r ⌝ }
 {
-    let unsound = !sound(s, v);
-    let repeated = entered(keys, first, next, n, s);
-    let lacking = lacks_facet(face_keys, face_first, face_next, m, s, width);
-    first_refusal(unsound, repeated, lacking)
+    if !sound_at(p, at, width, v) {
+        return Judged::Refused(Verdict::VERTEX);
+    }
+    if entered(keys, first, next, n, number) {
+        return Judged::Refused(Verdict::TWICE);
+    }
+    if width <= 2 {
+        return Judged::Sound(number);
+    }
+    let found = lookup::facet_ranks(face_keys, face_first, face_next, m, number, width);
+    match found {
+        Facets::Ranked(sides) => Judged::Sound(sides),
+        Facets::Lacking => Judged::Refused(Verdict::FACE),
+    }
+}
+
+// Keeps an item's sides, which an edge does not need: its number says them.
+fn keep_sides(sides: &mut [u64], place: usize, width: usize, found: u64)
+    requires { ⌜ (2 < width → place < length (now sides)) ⌝ }
+    ensures { λ _. ⌜ (2 < width → now (sides .exit) ≡ set (now (sides .entry)) place found) ⌝ }
+{
+    if 2 < width {
+        sides[place] = found;
+    }
 }
 
 // The items of the payload `p`, which starts at `base` of the file, over the m faces entered: their number, or the first
-// refusal with its place. The items read are entered, so their numbers stand in the keys.
+// refusal with its place. The items read are entered, so their numbers stand in the keys, and their sides are kept.
 pub fn read_items(
     p: &[u8],
     base: usize,
@@ -128,17 +146,19 @@ pub fn read_items(
     keys: &mut [u64],
     first: &mut [u16],
     next: &mut [u16],
+    sides: &mut [u64],
 ) -> ItemsRead
     requires { ⌜ Shaped (now p) base width ⌝ }
     requires { ⌜ Chained (now «face_keys») (now «face_first») (now «face_next») m ⌝ }
     requires { ⌜ Blank (now keys) (now first) (now next) ⌝ }
-    ensures { λ r. ⌜ ItemsTold (now (p .entry)) base v width (now («face_keys» .entry)) m (now (keys .exit)) (now (first .exit)) (now (next .exit)) r ⌝ }
+    requires { ⌜ (m ≤ 512) × (2 < width → 512 ≤ length (now sides)) ⌝ }
+    ensures { λ r. ⌜ ItemsTold (now (p .entry)) base v width (now («face_keys» .entry)) m (now (keys .exit)) (now (first .exit)) (now (next .exit)) (now (sides .exit)) r ⌝ }
 {
     let mut count = 0;
     let mut at = 0;
     while width <= p.len() - at {
-        let s = lists::simplex_at(p, at, width);
-        let number = judge(
+        let number = number_at(p, at, width);
+        let judged = judge(
             keys,
             first,
             next,
@@ -147,17 +167,24 @@ pub fn read_items(
             face_first,
             face_next,
             m,
-            s,
+            p,
+            at,
+            number,
             v,
             width,
         );
-        if number != 0 {
-            return ItemsRead {
-                verdict: Verdict::Refused(number, base + at),
-                count,
-            };
+        match judged {
+            Judged::Refused(refusal) => {
+                return ItemsRead {
+                    verdict: Verdict::Refused(refusal, base + at),
+                    count,
+                };
+            }
+            Judged::Sound(found) => {
+                keep_sides(sides, count, width, found);
+            }
         }
-        lookup::enter(keys, first, next, count, s);
+        keys::link(keys, first, next, count, number);
         count += 1;
         at += width;
     }

@@ -1,23 +1,25 @@
 -- What each outcome of a stage's tests comes to in the definitions.
 use Prim.Native.Nat.{ℕ, _+_, _*_, _%_, _≤_, _<_}
-use mathlib.Core.Path.{_≡_, refl, sym, _∙_, ap, subst₂}
-use mathlib.Core.Bool.{Bool, true, false, not, _&&_, and-false}
+use mathlib.Core.Path.{_≡_, sym, _∙_, ap, subst, subst₂}
+use mathlib.Core.Bool.{Bool, true, false, and-false}
 use mathlib.Core.List.{List, []}
 use native.Mathlib.Omega.{arith}
 use lib.ListN.{length}
-use lib.Dec.{eqb, leb}
+use lib.Dec.{eqb}
 use borrow.Author.Tests.{eq-eqb, ne-eqb, le-leb, lt-leb}
 use Rattle.format.specs.Numbers.{small, cut, wrongKind, shape, headerBytes}
 use Rattle.format.specs.Simplex.{Simplex}
-use Rattle.format.specs.Reading.{Reading, accepted, refused, _andThen_, Header, ended, broken, whole, headerAt, payloadAt, Record, Listing, recordAt, listFits, readItems, itemsOf, readList}
+use Rattle.format.specs.Reading.{accepted, refused, ended, broken, whole, headerAt, payloadAt, listFits, readItems, itemsOf, readList}
 use Rattle.format.specs.Opened.{openedFrom, opened, record-opened, opened-inside, payload-long}
 use Rattle.lists.specs.declared.Verdict.{Verdict}
-use Rattle.lists.specs.declared.Verdict.the-variants.{Fine, Refused}
+use Rattle.lists.specs.declared.Verdict.the-variants.{Refused}
 use Rattle.lists.specs.Verdicts.{readingOf, reading-then}
 use Rattle.lookup.specs.Indexed.{Blank, Indexed}
 use Rattle.lookup.specs.IndexLaws.{indexed-none}
 use Rattle.lookup.specs.Numbered.{simplicesIn}
 use Rattle.lookup.specs.NumberedLaws.{none-in}
+use Rattle.lookup.specs.Sides.{Sided}
+use Rattle.lookup.specs.SidesLaws.{sided-none}
 use Rattle.stages.specs.Meaning.{ListTold}
 use Rattle.stages.specs.declared.ListRead.{ListRead}
 
@@ -64,14 +66,15 @@ module _ (b : List ℕ) (at kind v : ℕ) (faces : List Simplex) where
         (reading-then verdict list (λ l. record { list = l; next = at + headerBytes + size }))
 
 -- a record that is refused as a whole leaves the lent arrays as they were
-pub told-refused : {b : List ℕ} {at kind v : ℕ} {faceKeys : List ℕ} {m : ℕ} {keys first next : List ℕ} {n : ℕ} (r : ListRead)
+pub told-refused : {b : List ℕ} {at kind v : ℕ} {faceKeys : List ℕ} {m : ℕ} {keys first next sides : List ℕ} {n : ℕ} (r : ListRead)
     → (r .verdict ≡ Refused n at) × (r .count ≡ 0) → Blank keys first next
     → ((faces : List Simplex) → readList small b at kind v faces ≡ refused n at)
-    → ListTold b at kind v faceKeys m keys first next r
-told-refused {kind = kind} {keys = keys} {first = first} {next = next} r e blank is = record {
+    → ListTold b at kind v faceKeys m keys first next sides r
+told-refused {kind = kind} {keys = keys} {first = first} {next = next} {sides = sides} r e blank is = record {
   reads = λ faces under. ap (λ v. readingOf v (record { list = simplicesIn kind keys (r .count); next = r .next })) (e .0) ∙ sym (is faces);
   indexed = subst₂ (λ (l : List Simplex) (k : ℕ). Indexed l keys first next k) (sym none) (sym (e .1)) (indexed-none (blank .none));
   few = omega (arith, e .1);
+  sided = λ wide faces under. subst (Sided faces (simplicesIn kind keys (r .count)) sides) (sym (e .1)) sided-none;
 }
   where
     none : simplicesIn kind keys (r .count) ≡ []

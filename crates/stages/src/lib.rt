@@ -3,8 +3,9 @@ use lists::SimplexList;
 use lists::Verdict;
 use records::Header;
 ghost use mathlib.Core.Path.{_≡_};
-ghost use Prim.Native.Nat.{_≤_};
+ghost use Prim.Native.Nat.{_≤_, _<_};
 ghost use lib.Dec.{eqb};
+ghost use lib.ListN.{length};
 ghost use Rattle.format.specs.Opened.{opened};
 ghost use Rattle.keys.specs.Chained.{Chained};
 ghost use Rattle.lookup.specs.Indexed.{Blank};
@@ -54,7 +55,7 @@ impl ListRead {
 }
 
 // Reads the list record of one kind at a place, over the m facets entered. What it reads is entered, so the list's numbers
-// stand in the keys.
+// stand in the keys, and the sides of what is no edge are kept.
 pub fn read_list(
     job: &[u8],
     at: usize,
@@ -67,11 +68,13 @@ pub fn read_list(
     keys: &mut [u64],
     first: &mut [u16],
     next: &mut [u16],
+    sides: &mut [u64],
 ) -> ListRead
     requires { ⌜ (2 ≤ kind) × (kind ≤ 4) ⌝ }
     requires { ⌜ Chained (now «face_keys») (now «face_first») (now «face_next») m ⌝ }
     requires { ⌜ Blank (now keys) (now first) (now next) ⌝ }
-    ensures { λ r. ⌜ ListTold (now (job .entry)) at kind v (now («face_keys» .entry)) m (now (keys .exit)) (now (first .exit)) (now (next .exit)) r ⌝ }
+    requires { ⌜ (m ≤ 512) × (2 < kind → 512 ≤ length (now sides)) ⌝ }
+    ensures { λ r. ⌜ ListTold (now (job .entry)) at kind v (now («face_keys» .entry)) m (now (keys .exit)) (now (first .exit)) (now (next .exit)) (now (sides .exit)) r ⌝ }
 {
     let opened = open(job, at, kind);
     match opened {
@@ -98,6 +101,7 @@ pub fn read_list(
                 keys,
                 first,
                 next,
+                sides,
             );
             let verdict = read.verdict;
             let count = read.count;

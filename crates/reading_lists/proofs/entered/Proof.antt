@@ -8,8 +8,8 @@ use borrow.Author.Needs.{needs}
 use Rattle.reading_lists.proofs.entered.Statement.{statement}
 use Rattle.reading_lists.proofs.entered.Tie as tie
 
-find-requires : tie.Need-find-requires
-find-requires c κs = search needs
+rank-of-requires : tie.Need-rank-of-requires
+rank-of-requires c κs = search needs
 
 enum-told : tie.Need-enum-told
 enum-told c = search needs
@@ -19,11 +19,11 @@ enum-told-2 c = search needs
 
 returns : tie.Need-returns
 unfolding isRanked
-returns c = λ l proper keyed. entered-told _ l _ (c .before .before .find .ensures l proper keyed) (ap rankOf (c .enum-told .given .1))
+returns c = λ s own l proper keyed. entered-told s l _ (c .before .before .rank-of .ensures s own l proper keyed) (ap rankOf (c .enum-told .given .1))
 
 returns-2 : tie.Need-returns-2
 unfolding isRanked
-returns-2 c = λ l proper keyed. entered-told _ l _ (c .before .before .find .ensures l proper keyed) (ap rankOf (c .enum-told2 .given .1))
+returns-2 c = λ s own l proper keyed. entered-told s l _ (c .before .before .rank-of .ensures s own l proper keyed) (ap rankOf (c .enum-told2 .given .1))
 
 pub entered-spec : {M : Type 1} → statement M
-entered-spec = tie.close (tie.spec find-requires enum-told enum-told-2 returns returns-2)
+entered-spec = tie.close (tie.spec rank-of-requires enum-told enum-told-2 returns returns-2)

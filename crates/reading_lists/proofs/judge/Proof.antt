@@ -1,28 +1,85 @@
--- `judge` meets its contract: the three tests, in the order of document 01.
+-- `judge` meets its contract: the tests stand in the order of document 01, and the first that holds decides.
 -- Assumes nothing.
-use Rattle.reading_lists.proofs.Judging.{judged}
+use mathlib.Core.Path.{_≡_, sym, ap, _∙_}
+use mathlib.Core.Bool.{not}
+use denote.Ref.{now}
+use lib.ListN.{length, take, drop}
+use Rattle.lists.proofs.Four.{length-part}
+use Rattle.reading_lists.proofs.Judging.{judged-unsound, judged-twice, judged-edge, judged-sound, judged-lacking}
 use borrow.Author.Needs.{needs}
 use Rattle.reading_lists.proofs.judge.Statement.{statement}
 use Rattle.reading_lists.proofs.judge.Tie as tie
 
-sound-requires : tie.Need-sound-requires
-sound-requires c κs = search needs
+sound-at-requires : tie.Need-sound-at-requires
+sound-at-requires c κs = search needs
+
+-- what is known of the item
+abbrev start : tie.After-sound-at → tie.Start
+start c = c .before .before .before .before .before .before .before .before
+
+wide : (c : tie.After-sound-at) → let a = start c .args in length (take (a .width) (drop (a .at) (now (a .p)))) ≡ a .width
+wide c = let a = start c .args in length-part (now (a .p)) (a .at) (a .width) (start c .pre .1 .1 .0 .2)
+
+returns : tie.Need-returns
+returns c = judged-unsound (ap not (sym (c .before .sound-at .ensures)) ∙ c .if1 .taken)
 
 entered-requires : tie.Need-entered-requires
 entered-requires c κs = search needs
 
-lacks-facet-requires : tie.Need-lacks-facet-requires
-lacks-facet-requires c κs = search needs
+returns-2 : tie.Need-returns-2
+returns-2 c =
+    let passed = c .before .before in
+    let tried = passed .before in
+    judged-twice (wide tried) (start tried .pre .1 .1 .1) (ap not (sym (tried .sound-at .ensures)) ∙ passed .if1 .left)
+    (c .before .entered .ensures) (c .if2 .taken)
 
-first-refusal-requires : tie.Need-first-refusal-requires
-first-refusal-requires c κs = search needs
+returns-3 : tie.Need-returns-3
+returns-3 c =
+    let new = c .before in
+    let passed = new .before .before in
+    let tried = passed .before in
+    judged-edge (wide tried) (start tried .pre .1 .1 .1) (ap not (sym (tried .sound-at .ensures)) ∙ passed .if1 .left)
+    (new .before .entered .ensures) (new .if2 .left) (c .if3 .taken)
 
-returns : tie.Need-returns
-returns c =
-    judged _ _ _ (c .first-refusal .ensures) (c .before .before .before .sound .ensures) (c .before .before .entered .ensures)
-    (c .before .lacks-facet .ensures)
+facet-ranks-requires : tie.Need-facet-ranks-requires
+facet-ranks-requires c κs = search needs
+
+enum-known-found : tie.Need-enum-known-found
+enum-known-found c = search needs
+
+enum-told : tie.Need-enum-told
+enum-told c = search needs
+
+returns-4 : tie.Need-returns-4
+returns-4 c =
+    let found = c .before in
+    let looked = found .before .before in
+    let new = looked .before .before in
+    let passed = new .before .before in
+    let tried = passed .before in
+    judged-sound (wide tried) (start tried .pre .1 .1 .1) (ap not (sym (tried .sound-at .ensures)) ∙ passed .if1 .left)
+    (new .before .entered .ensures) (new .if2 .left) (looked .before .if3 .left) (looked .facet-ranks .ensures) (found .found .given .1)
+
+returns-5 : tie.Need-returns-5
+returns-5 c =
+    let looked = c .before .before in
+    let new = looked .before .before in
+    let passed = new .before .before in
+    let tried = passed .before in
+    judged-lacking (wide tried) (start tried .pre .1 .1 .1) (ap not (sym (tried .sound-at .ensures)) ∙ passed .if1 .left)
+    (new .before .entered .ensures) (new .if2 .left) (looked .before .if3 .left) (looked .facet-ranks .ensures) (c .enum-told .given .1)
 
 pub judge-spec : {M : Type 1} → statement M
 judge-spec =
     tie.close
-    (tie.spec sound-requires entered-requires lacks-facet-requires first-refusal-requires returns)
+    (tie.spec
+    sound-at-requires
+    returns
+    entered-requires
+    returns-2
+    returns-3
+    facet-ranks-requires
+    enum-known-found
+    enum-told
+    returns-4
+    returns-5)

@@ -30,7 +30,7 @@ enum-known-opened-2 c = search needs
 -- the record stands there, with so many bytes behind its header
 module _ (c : tie.After-known-told2) where
   abbrev start : tie.Start
-  start = c .before .before .before .before .before .before .before .before .before .before .before
+  start = c .before .before .before .before .before .before .before .before .before .before .before .before
 
   abbrev size : ℕ
   size = c .before .opened2 .given .0 .0
@@ -54,7 +54,7 @@ refused-requires-2 c κs = search needs
 returns : tie.Need-returns
 returns c =
     let known = c .before .before in
-    told-refused (c .refused2 .result) (c .refused2 .ensures) (start known .pre .1 .1)
+    told-refused (c .refused2 .result) (c .refused2 .ensures) (start known .pre .1 .1 .0)
     (λ faces. list-uneven _ _ _ _ faces (size known) (stands known) (c .before .if1 .taken))
 
 mul-if2 : tie.Need-mul-if2
@@ -66,7 +66,7 @@ refused-requires-3 c κs = search needs
 returns-2 : tie.Need-returns-2
 returns-2 c =
     let known = c .before .before .before in
-    told-refused (c .refused3 .result) (c .refused3 .ensures) (start known .pre .1 .1)
+    told-refused (c .refused3 .result) (c .refused3 .ensures) (start known .pre .1 .1 .0)
     (λ faces. list-long _ _ _ _ faces (size known) (stands known) (omega (arith, c .before .if2 .taken)))
 
 add-start : tie.Need-add-start
@@ -77,7 +77,7 @@ payload-requires c κs = search needs
 
 read-items-requires : tie.Need-read-items-requires
 read-items-requires c κs =
-    let read = c .before .before .before in
+    let read = c .before .before .before .before in
     let known = read .before .before .before in
     let a = start known .args in
     let long : length (read .payload .result .now) ≡ size known =
@@ -91,14 +91,14 @@ read-items-requires c κs =
       start known .pre .1,
     )
 
-add-t22 : tie.Need-add-t22
-add-t22 c = omega (arith, fits (c .before .before .before .before .before .before .before .before .before .before .before .before .before))
+add-t23 : tie.Need-add-t23
+add-t23 c = omega (arith, fits (c .before .before .before .before .before .before .before .before .before .before .before .before .before .before .before .before))
 
 returns-3 : tie.Need-returns-3
 returns-3 c =
     let known = c .before .before in
-    let start = known .before .before .before .before .before .before .before .before .before .before in
-    told-refused (c .refused .result) (c .refused .ensures) (start .pre .1 .1)
+    let start = known .before .before .before .before .before .before .before .before .before .before .before in
+    told-refused (c .refused .result) (c .refused .ensures) (start .pre .1 .1 .0)
     (λ faces. list-refused _ _ _ _ faces _
     (told (openedOf (start .args .at)) _ _ _ (known .before .before .«open» .ensures) (known .opened .given .1)))
 
@@ -111,10 +111,13 @@ same-length-2 c = search needs
 same-length-3 : tie.Need-same-length-3
 same-length-3 c = search needs
 
+same-length-4 : tie.Need-same-length-4
+same-length-4 c = search needs
+
 returns-4 : tie.Need-returns-4
 returns-4 c =
-    let items = c .before .before .before .before .before .before in
-    let read = items .before .before .before .before in
+    let items = c .before .before .before .before .before .before .before .before in
+    let read = items .before .before .before .before .before in
     let whole = read .before in
     let known = whole .before .before in
     let a = start known .args in
@@ -126,6 +129,7 @@ returns-4 c =
           ∙ sym (items .read-items .ensures .reads faces under)));
       indexed = items .read-items .ensures .indexed;
       few = items .read-items .ensures .few;
+      sided = items .read-items .ensures .sided;
     }
 
 pub read-list-spec : {M : Type 1} → statement M
@@ -145,9 +149,10 @@ read-list-spec =
     add-start
     payload-requires
     read-items-requires
-    add-t22
+    add-t23
     returns-3
     same-length
     same-length-2
     same-length-3
+    same-length-4
     returns-4)
