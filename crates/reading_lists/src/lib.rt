@@ -106,10 +106,12 @@ fn judge(
     requires { ⌜ NumberOf (take width (drop at (now p))) number ⌝ }
     ensures { λ r. ⌜ JudgedSo (now (keys .entry)) n (now («face_keys» .entry)) m (take width (drop at (now (p .entry)))) v width r ⌝ }
 {
-    if !sound_at(p, at, width, v) {
+    let unsound = !sound_at(p, at, width, v);
+    let repeated = entered(keys, first, next, n, number);
+    if unsound {
         return Judged::Refused(Verdict::VERTEX);
     }
-    if entered(keys, first, next, n, number) {
+    if repeated {
         return Judged::Refused(Verdict::TWICE);
     }
     if width <= 2 {

@@ -1,22 +1,37 @@
 -- `jobs::after_head` meets its contract: the lists are read, and then what is asked about.
 -- Assumes nothing.
-use mathlib.Core.Path.{_∙_}
+use Prim.Native.Nat.{ℕ}
+use mathlib.Core.Path.{refl, _∙_}
+use native.Mathlib.Omega.{arith}
+use lib.ListN.{length-replicate}
 use Rattle.heads.specs.Meaning.{headOf}
 use Rattle.jobs.proofs.Laws.{told-refused, told-same, lists-refused, lists-fine}
 use borrow.Author.Needs.{needs}
 use Rattle.jobs.proofs.after_head.Statement.{statement}
 use Rattle.jobs.proofs.after_head.Tie as tie
 
+-- what was known before the lists were read
+abbrev begin : tie.After-read-lists → tie.Start
+begin read = read .before .before .before .before .before .before .before .before .before .before .before .before .before .before
+
 -- both calls keep the arrays' lengths
-module _ (c : tie.After-slice-known21) where
+module _ (c : tie.After-slice-known15) where
   abbrev last-read : tie.After-after-lists
-  last-read = c .before .before .before .before .before .before .before .before .before .before .before .before .before .before
+  last-read = c .before .before .before .before .before .before .before .before .before .before
 
   abbrev lists-read : tie.After-read-lists
-  lists-read = last-read .before .before .before .before .before .before .before .before .before .before .before .before .before .before .before .before .before .before .before .before .before .before .before .before .before
+  lists-read = last-read .before .before .before .before .before .before .before .before .before .before .before .before .before .before .before .before .before .before .before .before .before .before .before
+
+slice-aggregate-read-lists : tie.Need-slice-aggregate-read-lists
+slice-aggregate-read-lists c = search needs
+
+slice-aggregate-read-lists-2 : tie.Need-slice-aggregate-read-lists-2
+slice-aggregate-read-lists-2 c = search needs
 
 read-lists-requires : tie.Need-read-lists-requires
-read-lists-requires c κs = search needs
+read-lists-requires c κs = 
+    let room = c .before .before .before .before .before .before .before .before .before .before .before .before .before .pre .1 .1 in
+    (room, record { keys-room = room .edges; next-room = omega (arith, length-replicate {A = ℕ} 512 0); none = refl })
 
 enum-known-verdict : tie.Need-enum-known-verdict
 enum-known-verdict c = search needs
@@ -39,17 +54,11 @@ same-length-4 c = search needs
 same-length-5 : tie.Need-same-length-5
 same-length-5 c = search needs
 
-same-length-6 : tie.Need-same-length-6
-same-length-6 c = search needs
-
-same-length-7 : tie.Need-same-length-7
-same-length-7 c = search needs
-
 returns : tie.Need-returns
-returns c =
+returns c = 
     let told = c .before .before in
-    let read = told .before .before .before .before .before .before .before .before .before .before .before .before .before .before .before .before in
-    let a = read .before .before .before .before .before .before .before .before .before .before .before .before .before .before .before .before .args in
+    let read = told .before .before .before .before .before .before .before .before .before .before .before .before .before .before in
+    let a = begin read .args in
     told-refused _ (c .refused .result) _ _
     (lists-refused (a .job .now) (a .at) (headOf (a .head)) (read .read-lists .result) (read .read-lists .ensures) _ _ (told .verdict .given .1))
     (c .refused .ensures)
@@ -57,48 +66,50 @@ returns c =
 enum-told : tie.Need-enum-told
 enum-told c = search needs
 
+slice-aggregate-after-lists : tie.Need-slice-aggregate-after-lists
+slice-aggregate-after-lists c = search needs
+
+slice-aggregate-after-lists-2 : tie.Need-slice-aggregate-after-lists-2
+slice-aggregate-after-lists-2 c = search needs
+
 after-lists-requires : tie.Need-after-lists-requires
-after-lists-requires c κs =
+after-lists-requires c κs = 
     let told = c .before .before .before .before .before .before .before .before in
-    let read = told .before .before .before .before .before .before .before .before .before .before .before .before .before .before .before .before in
-    let start = read .before .before .before .before .before .before .before .before .before .before .before .before .before .before .before .before in
-    (start .pre .0, (start .pre .1 .0, read .read-lists .ensures .held (told .enum-told .given .1) (start .pre .1 .0 .vertices)))
+    let read = told .before .before .before .before .before .before .before .before .before .before .before .before .before .before in
+    let fine = told .enum-told .given .1 in
+    let known = begin read .pre in
+    (known .0, (known .1 .0, (read .read-lists .ensures .held fine (known .1 .0 .vertices), read .read-lists .ensures .linked fine)))
+
+same-length-6 : tie.Need-same-length-6
+same-length-6 c = last-read c .after-lists .kept .1 .1 .1 .1 .0 ∙ lists-read c .read-lists .kept .1 .1 .1 .0
+
+same-length-7 : tie.Need-same-length-7
+same-length-7 c = last-read c .after-lists .kept .1 .1 .1 .1 .1 .1 .1 .0 ∙ lists-read c .read-lists .kept .1 .1 .1 .1 .1 .1 .0
 
 same-length-8 : tie.Need-same-length-8
-same-length-8 c = last-read c .after-lists .kept .1 .1 .1 .1 .0 ∙ lists-read c .read-lists .kept .1 .1 .1 .0
+same-length-8 c = last-read c .after-lists .kept .1 .1 .1 .1 .1 .1 .1 .1 .0 ∙ lists-read c .read-lists .kept .1 .1 .1 .1 .1 .1 .1 .0
 
 same-length-9 : tie.Need-same-length-9
-same-length-9 c = last-read c .after-lists .kept .1 .1 .1 .1 .1 .0 ∙ lists-read c .read-lists .kept .1 .1 .1 .1 .0
+same-length-9 c = last-read c .after-lists .kept .1 .1 .1 .1 .1 .1 .1 .1 .1 .0 ∙ lists-read c .read-lists .kept .1 .1 .1 .1 .1 .1 .1 .1 .0
 
 same-length-10 : tie.Need-same-length-10
-same-length-10 c = last-read c .after-lists .kept .1 .1 .1 .1 .1 .1 .0 ∙ lists-read c .read-lists .kept .1 .1 .1 .1 .1 .0
-
-same-length-11 : tie.Need-same-length-11
-same-length-11 c = last-read c .after-lists .kept .1 .1 .1 .1 .1 .1 .1 .0 ∙ lists-read c .read-lists .kept .1 .1 .1 .1 .1 .1 .0
-
-same-length-12 : tie.Need-same-length-12
-same-length-12 c = last-read c .after-lists .kept .1 .1 .1 .1 .1 .1 .1 .1 .0 ∙ lists-read c .read-lists .kept .1 .1 .1 .1 .1 .1 .1 .0
-
-same-length-13 : tie.Need-same-length-13
-same-length-13 c = last-read c .after-lists .kept .1 .1 .1 .1 .1 .1 .1 .1 .1 .0 ∙ lists-read c .read-lists .kept .1 .1 .1 .1 .1 .1 .1 .1 .0
-
-same-length-14 : tie.Need-same-length-14
-same-length-14 c = last-read c .after-lists .kept .1 .1 .1 .1 .1 .1 .1 .1 .1 .1 .0 ∙ lists-read c .read-lists .kept .1 .1 .1 .1 .1 .1 .1 .1 .1 .0
+same-length-10 c = last-read c .after-lists .kept .1 .1 .1 .1 .1 .1 .1 .1 .1 .1 .0 ∙ lists-read c .read-lists .kept .1 .1 .1 .1 .1 .1 .1 .1 .1 .0
 
 returns-2 : tie.Need-returns-2
-returns-2 c =
-    let done = c .before .before .before .before .before .before .before .before .before .before .before .before .before .before in
-    let told = done .before .before .before .before .before .before .before .before .before in
-    let read = told .before .before .before .before .before .before .before .before .before .before .before .before .before .before .before .before in
-    let a = read .before .before .before .before .before .before .before .before .before .before .before .before .before .before .before .before .args in
+returns-2 c = 
+    let done = last-read c in
+    let read = lists-read c in
+    let a = begin read .args in
     told-same (done .after-lists .result)
-    (lists-fine (a .job .now) (a .at) (headOf (a .head)) (read .read-lists .result) (read .read-lists .ensures) (told .enum-told .given .1))
+    (lists-fine (a .job .now) (a .at) (headOf (a .head)) (read .read-lists .result) (read .read-lists .ensures) (done .before .before .before .before .before .before .before .before .before .enum-told .given .1))
     (done .after-lists .ensures)
 
 pub after-head-spec : {M : Type 1} → statement M
 after-head-spec =
     tie.close
     (tie.spec
+    slice-aggregate-read-lists
+    slice-aggregate-read-lists-2
     read-lists-requires
     enum-known-verdict
     refused-requires
@@ -107,16 +118,14 @@ after-head-spec =
     same-length-3
     same-length-4
     same-length-5
-    same-length-6
-    same-length-7
     returns
     enum-told
+    slice-aggregate-after-lists
+    slice-aggregate-after-lists-2
     after-lists-requires
+    same-length-6
+    same-length-7
     same-length-8
     same-length-9
     same-length-10
-    same-length-11
-    same-length-12
-    same-length-13
-    same-length-14
     returns-2)

@@ -1,9 +1,6 @@
 -- `jobs::read_job` meets its contract: the job is read into arrays, and its lists are made of what they hold.
 -- Assumes nothing.
-use Prim.Native.Nat.{ℕ}
-use native.Mathlib.Omega.{arith}
-use lib.ListN.{length-replicate}
-use Rattle.lookup.specs.IndexLaws.{zeros-blank}
+use Rattle.lent_lists.specs.HeldLaws.{held-roomy, zeros-room}
 use Rattle.jobs.proofs.Laws.{outcome-refused, outcome-fine}
 use borrow.Author.Needs.{needs}
 use Rattle.jobs.proofs.read_job.Statement.{statement}
@@ -24,15 +21,8 @@ slice-aggregate-read-numbers-4 c = search needs
 slice-aggregate-read-numbers-5 : tie.Need-slice-aggregate-read-numbers-5
 slice-aggregate-read-numbers-5 c = search needs
 
-slice-aggregate-read-numbers-6 : tie.Need-slice-aggregate-read-numbers-6
-slice-aggregate-read-numbers-6 c = search needs
-
-slice-aggregate-read-numbers-7 : tie.Need-slice-aggregate-read-numbers-7
-slice-aggregate-read-numbers-7 c = search needs
-
 read-numbers-requires : tie.Need-read-numbers-requires
-read-numbers-requires c κs =
-    record { edges = zeros-blank; triangles = zeros-blank; tetrahedra = omega (arith, length-replicate {A = ℕ} 512 0) }
+read-numbers-requires c κs = zeros-room
 
 enum-known-verdict : tie.Need-enum-known-verdict
 enum-known-verdict c = search needs
@@ -53,19 +43,19 @@ slice-aggregate-complex-of-3 : tie.Need-slice-aggregate-complex-of-3
 slice-aggregate-complex-of-3 c = search needs
 
 complex-of-requires : tie.Need-complex-of-requires
-complex-of-requires c κs =
+complex-of-requires c κs = 
     let told = c .before .before .before .before .before .before in
-    told .before .before .before .before .before .before .before .before .before .read-numbers .ensures .held (told .enum-told .given .1) .roomy
+    held-roomy (told .before .before .before .before .before .before .before .read-numbers .ensures .held (told .enum-told .given .1))
 
 returns : tie.Need-returns
-returns c =
+returns c = 
     let told = c .before .before in
-    outcome-refused (told .before .before .before .before .before .before .before .before .before .read-numbers .ensures) (c .refused .result) _ _ (told .verdict .given .1) (c .refused .ensures)
+    outcome-refused (told .before .before .before .before .before .before .before .read-numbers .ensures) (c .refused .result) _ _ (told .verdict .given .1) (c .refused .ensures)
 
 returns-2 : tie.Need-returns-2
-returns-2 c =
+returns-2 c = 
     let told = c .before .before .before .before .before .before .before in
-    outcome-fine (told .before .before .before .before .before .before .before .before .before .read-numbers .ensures) (c .complex-of .result) (told .enum-told .given .1) (c .complex-of .ensures)
+    outcome-fine (told .before .before .before .before .before .before .before .read-numbers .ensures) (c .complex-of .result) (told .enum-told .given .1) (c .complex-of .ensures)
 
 pub read-job-spec : {M : Type 1} → statement M
 read-job-spec =
@@ -76,8 +66,6 @@ read-job-spec =
     slice-aggregate-read-numbers-3
     slice-aggregate-read-numbers-4
     slice-aggregate-read-numbers-5
-    slice-aggregate-read-numbers-6
-    slice-aggregate-read-numbers-7
     read-numbers-requires
     enum-known-verdict
     refused-requires

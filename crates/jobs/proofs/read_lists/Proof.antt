@@ -21,7 +21,7 @@ use Rattle.jobs.proofs.read_lists.Tie as tie
 -- the edges were read, over no list
 module _ (c : tie.After-read-list) where
   abbrev start : tie.Start
-  start = c .before .before .before .before .before .before .before .before .before .before .before .before .before .before .before
+  start = c .before .before .before .before .before .before .before .before .before .before .before .before .before .before .before .before
 
   abbrev job : List ℕ
   job = start .args .job .now
@@ -41,7 +41,7 @@ module _ (c : tie.After-read-list) where
 -- and none of them was refused
 module _ (c : tie.After-enum-told) where
   abbrev first-read : tie.After-read-list
-  first-read = c .before .before .before .before .before .before .before .before
+  first-read = c .before .before .before .before .before .before .before .before .before .before
 
   edges-fine : let e = first-read in
       readList small (job e) (start e .args .at) 2 (start e .args .v) [] ≡ accepted (record { list = edge-list e; next = edges e .next })
@@ -55,7 +55,7 @@ module _ (c : tie.After-enum-told) where
 -- the triangles were read, over the edges
 module _ (c : tie.After-read-list2) where
   abbrev over-edges : tie.After-enum-told
-  over-edges = c .before .before .before .before .before .before .before
+  over-edges = c .before .before .before .before .before .before .before .before
 
   abbrev triangles : ListRead
   triangles = c .read-list2 .result
@@ -89,17 +89,24 @@ module _ (c : tie.After-enum-told2) where
   triangles-known : ListSound 3 (start before-them .args .v) (edge-list before-them) (triangle-list second-read)
   triangles-known = list-known (job before-them) (edges before-them .next) 3 (start before-them .args .v) _ _ (omega arith) triangles-fine
 
+-- all three were read
+module _ (c : tie.After-slice-known15) where
+  abbrev last-read : tie.After-read-list3
+  last-read = c .before .before .before .before .before .before
+
+  abbrev lists-read : tie.After-enum-told2
+  lists-read = last-read .before .before .before .before .before .before .before .before
+
 slice-aggregate-read-list : tie.Need-slice-aggregate-read-list
 slice-aggregate-read-list c = search needs
 
 slice-aggregate-read-list-2 : tie.Need-slice-aggregate-read-list-2
 slice-aggregate-read-list-2 c = search needs
 
-slice-aggregate-read-list-3 : tie.Need-slice-aggregate-read-list-3
-slice-aggregate-read-list-3 c = search needs
-
 read-list-requires : tie.Need-read-list-requires
-read-list-requires c κs = ((omega arith, omega arith), (chained-none _ _, c .before .before .before .before .before .before .before .before .before .before .before .before .before .before .pre .edges))
+read-list-requires c κs = 
+    let start = c .before .before .before .before .before .before .before .before .before .before .before .before .before .before .before in
+    ((omega arith, omega arith), (chained-none _ _, (start .pre .1, (omega arith, λ wide. absurd (omega arith)))))
 
 enum-known-edges-verdict : tie.Need-enum-known-edges-verdict
 enum-known-edges-verdict c = search needs
@@ -116,10 +123,16 @@ same-length-2 c = search needs
 same-length-3 : tie.Need-same-length-3
 same-length-3 c = search needs
 
+same-length-4 : tie.Need-same-length-4
+same-length-4 c = search needs
+
+same-length-5 : tie.Need-same-length-5
+same-length-5 c = search needs
+
 returns : tie.Need-returns
-returns c =
+returns c = 
     let told = c .before .before in
-    let read = told .before .before .before .before .before .before .before .before in
+    let read = told .before .before .before .before .before .before .before .before .before .before in
     lists-told-refused (c .refused .result) (c .refused .ensures)
     (no-edges (job read) (start read .args .at) (start read .args .v) _ _
     (list-refused (job read) (start read .args .at) 2 (start read .args .v) [] (edge-keys read) (edges read) _ _ (edges-told read) (told .edges-verdict .given .1)))
@@ -127,10 +140,24 @@ returns c =
 enum-told : tie.Need-enum-told
 enum-told c = search needs
 
+slice-aggregate-read-list-3 : tie.Need-slice-aggregate-read-list-3
+slice-aggregate-read-list-3 c = search needs
+
+slice-aggregate-read-list-4 : tie.Need-slice-aggregate-read-list-4
+slice-aggregate-read-list-4 c = search needs
+
 read-list-requires-2 : tie.Need-read-list-requires-2
-read-list-requires-2 c κs =
-    let e = first-read (c .before .before .before .before .before .before) in
-    ((omega arith, omega arith), (e .read-list .ensures .indexed .chained, start e .pre .triangles))
+read-list-requires-2 c κs = 
+    let e = first-read (c .before .before .before .before .before .before .before) in (
+      (omega arith, omega arith),
+      (
+        e .read-list .ensures .indexed .chained,
+        (
+          record { keys-room = start e .pre .0 .triangles; next-room = omega (arith, length-replicate {A = ℕ} 512 0); none = refl },
+          (e .read-list .ensures .few, λ wide. start e .pre .0 .triangle-sides),
+        ),
+      ),
+    )
 
 enum-known-triangles-verdict : tie.Need-enum-known-triangles-verdict
 enum-known-triangles-verdict c = search needs
@@ -138,26 +165,26 @@ enum-known-triangles-verdict c = search needs
 refused-requires-2 : tie.Need-refused-requires-2
 refused-requires-2 c κs = search needs
 
-same-length-4 : tie.Need-same-length-4
-same-length-4 c = first-read (over-edges (c .before .before .before .before .before .before .before .before .before .before)) .read-list .kept .1 .1 .1 .1 .1 .1 .1 .1 .0
-
-same-length-5 : tie.Need-same-length-5
-same-length-5 c = first-read (over-edges (c .before .before .before .before .before .before .before .before .before .before)) .read-list .kept .1 .1 .1 .1 .1 .1 .1 .1 .1 .0
-
 same-length-6 : tie.Need-same-length-6
-same-length-6 c = first-read (over-edges (c .before .before .before .before .before .before .before .before .before .before)) .read-list .kept .1 .1 .1 .1 .1 .1 .1 .1 .1 .1 .0
+same-length-6 c = first-read (over-edges (c .before .before .before .before .before .before .before .before .before .before)) .read-list .kept .1 .1 .1 .1 .1 .1 .1 .1 .0
 
 same-length-7 : tie.Need-same-length-7
-same-length-7 c = search needs
+same-length-7 c = first-read (over-edges (c .before .before .before .before .before .before .before .before .before .before)) .read-list .kept .1 .1 .1 .1 .1 .1 .1 .1 .1 .0
 
 same-length-8 : tie.Need-same-length-8
-same-length-8 c = search needs
+same-length-8 c = first-read (over-edges (c .before .before .before .before .before .before .before .before .before .before)) .read-list .kept .1 .1 .1 .1 .1 .1 .1 .1 .1 .1 .0
 
 same-length-9 : tie.Need-same-length-9
 same-length-9 c = search needs
 
+same-length-10 : tie.Need-same-length-10
+same-length-10 c = search needs
+
+same-length-11 : tie.Need-same-length-11
+same-length-11 c = first-read (over-edges (c .before .before .before .before .before .before .before .before .before .before)) .read-list .kept .1 .1 .1 .1 .1 .1 .1 .1 .1 .1 .1 .0
+
 returns-2 : tie.Need-returns-2
-returns-2 c =
+returns-2 c = 
     let told = c .before .before in
     let read = told .before .before .before .before .before .before .before .before in
     let e = first-read (over-edges read) in
@@ -168,58 +195,67 @@ returns-2 c =
 enum-told-2 : tie.Need-enum-told-2
 enum-told-2 c = search needs
 
-slice-aggregate-read-list-4 : tie.Need-slice-aggregate-read-list-4
-slice-aggregate-read-list-4 c = search needs
-
 slice-aggregate-read-list-5 : tie.Need-slice-aggregate-read-list-5
 slice-aggregate-read-list-5 c = search needs
 
+slice-aggregate-read-list-6 : tie.Need-slice-aggregate-read-list-6
+slice-aggregate-read-list-6 c = search needs
+
+slice-aggregate-read-list-7 : tie.Need-slice-aggregate-read-list-7
+slice-aggregate-read-list-7 c = search needs
+
+slice-aggregate-read-list-8 : tie.Need-slice-aggregate-read-list-8
+slice-aggregate-read-list-8 c = search needs
+
 read-list-requires-3 : tie.Need-read-list-requires-3
-read-list-requires-3 c κs =
-    let told = c .before .before .before .before .before .before in (
+read-list-requires-3 c κs = 
+    let told = c .before .before .before .before .before .before .before in
+    let e = before-them told in (
       (omega arith, omega arith),
       (
         second-read told .read-list2 .ensures .indexed .chained,
-        record {
-          keys-room = start (before-them told) .pre .tetrahedra;
-          next-room = omega (arith, length-replicate {A = ℕ} 512 0);
-          none = refl;
-        },
+        (
+          record { keys-room = start e .pre .0 .tetrahedra; next-room = omega (arith, length-replicate {A = ℕ} 512 0); none = refl },
+          (second-read told .read-list2 .ensures .few, λ wide. omega (arith, start e .pre .0 .tetrahedron-sides, e .read-list .kept .1 .1 .1 .1 .1 .1 .1 .1 .1 .1 .1 .0)),
+        ),
       ),
     )
 
-same-length-10 : tie.Need-same-length-10
-same-length-10 c = before-them (c .before .before .before .before .before .before .before .before .before .before .before) .read-list .kept .1 .1 .1 .1 .1 .1 .1 .1 .0
-
-same-length-11 : tie.Need-same-length-11
-same-length-11 c = before-them (c .before .before .before .before .before .before .before .before .before .before .before) .read-list .kept .1 .1 .1 .1 .1 .1 .1 .1 .1 .0
-
 same-length-12 : tie.Need-same-length-12
-same-length-12 c = before-them (c .before .before .before .before .before .before .before .before .before .before .before) .read-list .kept .1 .1 .1 .1 .1 .1 .1 .1 .1 .1 .0
+same-length-12 c = before-them (lists-read c) .read-list .kept .1 .1 .1 .1 .1 .1 .1 .1 .0
 
 same-length-13 : tie.Need-same-length-13
-same-length-13 c = search needs
+same-length-13 c = before-them (lists-read c) .read-list .kept .1 .1 .1 .1 .1 .1 .1 .1 .1 .0
 
 same-length-14 : tie.Need-same-length-14
-same-length-14 c = search needs
+same-length-14 c = before-them (lists-read c) .read-list .kept .1 .1 .1 .1 .1 .1 .1 .1 .1 .1 .0
 
 same-length-15 : tie.Need-same-length-15
-same-length-15 c = search needs
+same-length-15 c = second-read (lists-read c) .read-list2 .kept .1 .1 .1 .1 .1 .1 .1 .1 .0
 
 same-length-16 : tie.Need-same-length-16
-same-length-16 c = search needs
+same-length-16 c = last-read c .read-list3 .kept .1 .1 .1 .1 .1 .1 .1 .1 .0
+
+same-length-17 : tie.Need-same-length-17
+same-length-17 c = second-read (lists-read c) .read-list2 .kept .1 .1 .1 .1 .1 .1 .1 .1 .1 .1 .1 .0
+
+same-length-18 : tie.Need-same-length-18
+same-length-18 c = last-read c .read-list3 .kept .1 .1 .1 .1 .1 .1 .1 .1 .1 .1 .1 .0 ∙ before-them (lists-read c) .read-list .kept .1 .1 .1 .1 .1 .1 .1 .1 .1 .1 .1 .0
 
 returns-3 : tie.Need-returns-3
-returns-3 c =
-    let read = c .before .before .before .before in
-    let told = read .before .before .before .before .before .before .before in
+returns-3 c = 
+    let read = last-read c in
+    let told = lists-read c in
     let e = before-them told in
     let t = second-read told in
     let v = start e .args .v in
+    let room = start e .pre .0 in
     let tetrahedra = read .read-list3 .result in
     let keys = read .read-list3 .last .1 .1 .1 .1 .1 .1 .1 .1 .0 in
+    let under-triangles = faces-in 3 _ (edges-known (over-edges t)) (e .read-list .ensures .indexed) in
+    let under-tetrahedra = faces-in 4 _ (triangles-known told) (t .read-list2 .ensures .indexed) in
     let tetrahedra-told : listRead 4 keys tetrahedra ≡ readList small (job e) (triangles t .next) 4 v (triangle-list t) =
-    read .read-list3 .ensures .reads _ (faces-in 4 _ (triangles-known told) (t .read-list2 .ensures .indexed)) in
+    read .read-list3 .ensures .reads _ under-tetrahedra in
     record {
       reads =
           all-lists (job e) (start e .args .at) v _ (edges-fine (over-edges t)) _ (triangles-fine told) (tetrahedra .verdict)
@@ -229,20 +265,20 @@ returns-3 c =
             complex-sound v _ _ _ few (edges-known (over-edges t)) (triangles-known told)
             (list-known (job e) (triangles t .next) 4 v _ _ (omega arith)
             (list-fine (job e) (triangles t .next) 4 v _ keys tetrahedra tetrahedra-told f));
-        roomy = record {
-          few-edges = e .read-list .ensures .few;
-          few-triangles = t .read-list2 .ensures .few;
-          few-tetrahedra = read .read-list3 .ensures .few;
-          edges-room = omega (arith, start e .pre .edges .keys-room, e .read-list .kept .1 .1 .1 .1 .1 .1 .1 .1 .0);
-          triangles-room = omega (arith, start e .pre .triangles .keys-room, t .read-list2 .kept .1 .1 .1 .1 .1 .1 .1 .1 .0);
-          tetrahedra-room = omega (arith, start e .pre .tetrahedra, read .read-list3 .kept .1 .1 .1 .1 .1 .1 .1 .1 .0);
+        room = record {
+          edges = omega (arith, room .edges, e .read-list .kept .1 .1 .1 .1 .1 .1 .1 .1 .0);
+          triangles = omega (arith, room .triangles, t .read-list2 .kept .1 .1 .1 .1 .1 .1 .1 .1 .0);
+          tetrahedra = omega (arith, room .tetrahedra, read .read-list3 .kept .1 .1 .1 .1 .1 .1 .1 .1 .0);
+          triangle-sides = omega (arith, room .triangle-sides, t .read-list2 .kept .1 .1 .1 .1 .1 .1 .1 .1 .1 .1 .1 .0);
+          tetrahedron-sides = omega (arith, room .tetrahedron-sides, read .read-list3 .kept .1 .1 .1 .1 .1 .1 .1 .1 .1 .1 .1 .0, e .read-list .kept .1 .1 .1 .1 .1 .1 .1 .1 .1 .1 .1 .0);
         };
-        edges = e .read-list .ensures .indexed;
-        triangles = t .read-list2 .ensures .indexed;
+        edges = e .read-list .ensures .indexed .keyed;
+        triangles = t .read-list2 .ensures .indexed .keyed;
         tetrahedra = read .read-list3 .ensures .indexed .keyed;
-        edges-links = omega (arith, start e .pre .edges .next-room, e .read-list .kept .1 .1 .1 .1 .1 .1 .1 .1 .1 .1 .0);
-        triangles-links = omega (arith, start e .pre .triangles .next-room, t .read-list2 .kept .1 .1 .1 .1 .1 .1 .1 .1 .1 .1 .0);
+        triangle-sides = t .read-list2 .ensures .sided (omega arith) _ under-triangles;
+        tetrahedron-sides = read .read-list3 .ensures .sided (omega arith) _ under-tetrahedra;
       };
+      linked = λ f. e .read-list .ensures .indexed;
     }
 
 pub read-lists-spec : {M : Type 1} → statement M
@@ -251,34 +287,39 @@ read-lists-spec =
     (tie.spec
     slice-aggregate-read-list
     slice-aggregate-read-list-2
-    slice-aggregate-read-list-3
     read-list-requires
     enum-known-edges-verdict
     refused-requires
     same-length
     same-length-2
     same-length-3
+    same-length-4
+    same-length-5
     returns
     enum-told
+    slice-aggregate-read-list-3
+    slice-aggregate-read-list-4
     read-list-requires-2
     enum-known-triangles-verdict
     refused-requires-2
-    same-length-4
-    same-length-5
     same-length-6
     same-length-7
     same-length-8
     same-length-9
-    returns-2
-    enum-told-2
-    slice-aggregate-read-list-4
-    slice-aggregate-read-list-5
-    read-list-requires-3
     same-length-10
     same-length-11
+    returns-2
+    enum-told-2
+    slice-aggregate-read-list-5
+    slice-aggregate-read-list-6
+    slice-aggregate-read-list-7
+    slice-aggregate-read-list-8
+    read-list-requires-3
     same-length-12
     same-length-13
     same-length-14
     same-length-15
     same-length-16
+    same-length-17
+    same-length-18
     returns-3)

@@ -20,7 +20,7 @@ use Rattle.jobs.proofs.read_numbers.Tie as tie
 -- the first record is whole and a head's
 module _ (c : tie.After-opened2) where
   abbrev start : tie.Start
-  start = c .before .before .before .before .before .before .before .before .before .before .before .before
+  start = c .before .before .before .before .before .before .before .before .before .before
 
   abbrev job : List ℕ
   job = start .args .job .now
@@ -89,7 +89,7 @@ enum-known-read c = search needs
 
 after-head-requires : tie.Need-after-head-requires
 after-head-requires c κs =
-    let read = c .before .before .before .before .before .before .before .before in
+    let read = c .before .before .before .before .before .before in
     let record-open = read .before .before .before .before .before .before in
     (short record-open, (head-known _ _ _ (read .before .before .read-head .ensures) (read .read .given .1), start record-open .pre))
 
@@ -97,7 +97,7 @@ returns-3 : tie.Need-returns-3
 returns-3 c =
     let kind = c .before .before in
     let tried = kind .before .before in
-    let b = tried .before .before .before .before .before .before .before .before .before .before .args .job .now in
+    let b = tried .before .before .before .before .before .before .before .before .args .job .now in
     told-refused _ (c .refused2 .result) _ _
     (head-refused b (omega (arith, tried .before .if1 .left)) _ (told (openedOf 0) _ _ _ (tried .«open» .ensures) (kind .opened .given .1)))
     (c .refused2 .ensures)
@@ -112,34 +112,28 @@ returns-4 c =
     (c .refused4 .ensures)
 
 same-length : tie.Need-same-length
-same-length c = c .before .before .before .before .before .before .before .before .before .before .before .before .before .before .after-head .kept .1 .1 .1 .0
+same-length c = c .before .before .before .before .before .before .before .before .before .before .after-head .kept .1 .1 .1 .0
 
 same-length-2 : tie.Need-same-length-2
-same-length-2 c = c .before .before .before .before .before .before .before .before .before .before .before .before .before .before .after-head .kept .1 .1 .1 .1 .0
+same-length-2 c = c .before .before .before .before .before .before .before .before .before .before .after-head .kept .1 .1 .1 .1 .0
 
 same-length-3 : tie.Need-same-length-3
-same-length-3 c = c .before .before .before .before .before .before .before .before .before .before .before .before .before .before .after-head .kept .1 .1 .1 .1 .1 .0
+same-length-3 c = c .before .before .before .before .before .before .before .before .before .before .after-head .kept .1 .1 .1 .1 .1 .0
 
 same-length-4 : tie.Need-same-length-4
-same-length-4 c = c .before .before .before .before .before .before .before .before .before .before .before .before .before .before .after-head .kept .1 .1 .1 .1 .1 .1 .0
+same-length-4 c = c .before .before .before .before .before .before .before .before .before .before .after-head .kept .1 .1 .1 .1 .1 .1 .0
 
 same-length-5 : tie.Need-same-length-5
-same-length-5 c = c .before .before .before .before .before .before .before .before .before .before .before .before .before .before .after-head .kept .1 .1 .1 .1 .1 .1 .1 .0
-
-same-length-6 : tie.Need-same-length-6
-same-length-6 c = c .before .before .before .before .before .before .before .before .before .before .before .before .before .before .after-head .kept .1 .1 .1 .1 .1 .1 .1 .1 .0
-
-same-length-7 : tie.Need-same-length-7
-same-length-7 c = c .before .before .before .before .before .before .before .before .before .before .before .before .before .before .after-head .kept .1 .1 .1 .1 .1 .1 .1 .1 .1 .0
+same-length-5 c = c .before .before .before .before .before .before .before .before .before .before .after-head .kept .1 .1 .1 .1 .1 .1 .1 .0
 
 returns-5 : tie.Need-returns-5
 returns-5 c =
-    let done = c .before .before .before .before .before .before .before .before .before .before .before .before .before .before in
-    let read = done .before .before .before .before .before .before .before .before .before .before .before in
+    let done = c .before .before .before .before .before .before .before .before .before .before in
+    let read = done .before .before .before .before .before .before .before .before .before in
     let record-open = read .before .before .before .before in
     told-same (done .after-head .result)
     (head-fine (job record-open) (short record-open) (size record-open) (whole record-open) (four read) _
-    (told headReading _ _ _ (head-read read) (done .before .before .before .before .before .before .before .before .before .read .given .1)))
+    (told headReading _ _ _ (head-read read) (done .before .before .before .before .before .before .before .read .given .1)))
     (done .after-head .ensures)
 
 pub read-numbers-spec : {M : Type 1} → statement M
@@ -167,6 +161,4 @@ read-numbers-spec =
     same-length-3
     same-length-4
     same-length-5
-    same-length-6
-    same-length-7
     returns-5)
