@@ -77,7 +77,7 @@ module _ {v : ℕ} {c : Counts} {eKeys tKeys sKeys tSides sSides : List ℕ} (he
   X = complexIn v c eKeys tKeys sKeys
 
   -- the sides of a list are ranks in the one below; those of edges are their own numbers
-  sides-in : (dim n : ℕ) → dim ≤ 2 → n ≡ length (simplices X (suc dim))
+  pub sides-in : (dim n : ℕ) → dim ≤ 2 → n ≡ length (simplices X (suc dim))
       → Sided (simplices X dim) (simplices X (suc dim)) (ofDimension (suc dim) eKeys tSides sSides) n
   unfolding simplices
   sides-in zero n le e = subst (Sided (vertexList v) (X .edges) eKeys) (held .edges .count ∙ sym e) (edges-sided (held .sound .edges) (held .edges))
@@ -93,7 +93,7 @@ module _ {v : ℕ} {c : Counts} {eKeys tKeys sKeys tSides sSides : List ℕ} (he
       each false true = held .room .tetrahedra
       each false false = held .room .edges
 
-  sides-room : (dim : ℕ) → 512 ≤ length (ofDimension dim eKeys tSides sSides)
+  pub sides-room : (dim : ℕ) → 512 ≤ length (ofDimension dim eKeys tSides sSides)
   sides-room dim = each (eqb dim 2) (eqb dim 3)
     where
       each : (x y : Bool) → 512 ≤ length (cond x tSides (cond y sSides eKeys))

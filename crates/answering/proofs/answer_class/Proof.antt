@@ -27,74 +27,62 @@ lists start =
 small-dim : (start : tie.Start) → start .args .dim ≤ 2
 small-dim start = subst (λ n. n ≤ 2) (sym (start .pre .1 .0)) (dimension-few (questionOf (start .args .read .head .question)) (start .args .read .head .d) (start .pre .0 .head .dimension))
 
--- what is known once the arrays are chosen
-module _ (c : tie.After-numbers-of2) where
+-- what is known once the sides are chosen
+module _ (c : tie.After-numbers-of) where
   abbrev start : tie.Start
-  start = c .before .before .before .before .before .before .before .before .before .before .before .before .before .before .before .before .before .before
+  start = c .before .before .before .before .before .before .before .before .before .before .before .before .before
 
-  m-is : c .before .before .before .before .before .of .result ≡ length (simplices (lists start) (start .args .dim))
-  m-is = c .before .before .before .before .before .of .ensures (lists start) (held-counted (start .pre .0 .held))
+  m-is : c .before .before .of .result ≡ length (simplices (lists start) (start .args .dim))
+  m-is = c .before .before .of .ensures (lists start) (held-counted (start .pre .0 .held))
 
-  n-is : c .before .before .before .before .of2 .result ≡ length (simplices (lists start) (start .args .dim + 1))
-  n-is = c .before .before .before .before .of2 .ensures (lists start) (held-counted (start .pre .0 .held))
+  n-is : c .before .of2 .result ≡ length (simplices (lists start) (start .args .dim + 1))
+  n-is = c .before .of2 .ensures (lists start) (held-counted (start .pre .0 .held))
 
-  few : c .before .before .before .before .before .of .result ≤ 512
+  few : c .before .before .of .result ≤ 512
   few = subst (λ n. n ≤ 512) (sym m-is) (few-simplices (lists start) (start .pre .0 .held .sound) _)
 
 -- the vertices are listed by number
 vertices-listed : (c : tie.After-number-vertices) → let chosen = c .before .before .before .before .before .before .before .before .before in
-    simplicesIn 1 (c .number-vertices .last .0) (chosen .before .before .before .before .before .of .result) ≡ simplices (lists (start chosen)) (start chosen .args .dim)
+    simplicesIn 1 (c .number-vertices .last .0) (chosen .before .before .of .result) ≡ simplices (lists (start chosen)) (start chosen .args .dim)
 vertices-listed c =
     let chosen = c .before .before .before .before .before .before .before .before .before in
     c .number-vertices .ensures ∙ vertices-are (lists (start chosen)) _ _ (c .before .before .if1 .taken) (m-is chosen)
 
 -- simplices of other dimensions by their numbers
-rows-listed : (c : tie.Else1) → let chosen = c .before .before .before .before .before .before .before in
-    simplicesIn (start chosen .args .dim + 1) (chosen .before .before .before .numbers-of .result .now) (chosen .before .before .before .before .before .of .result)
+rows-listed : (c : tie.After-numbers-of2) → let chosen = c .before .before .before .before .before .before .before .before in
+    simplicesIn (start chosen .args .dim + 1) (c .numbers-of2 .result .now) (chosen .before .before .of .result)
     ≡ simplices (lists (start chosen)) (start chosen .args .dim)
 rows-listed c =
-    let chosen = c .before .before .before .before .before .before .before in
+    let chosen = c .before .before .before .before .before .before .before .before in
     let d = small-dim (start chosen) in
-    let some = c .if1 .left in
-    numbers-list (start chosen .pre .0 .held) (start chosen .args .dim) _ _ (chosen .before .before .before .numbers-of .ensures) (omega arith) (omega arith) (omega arith)
-    (m-is chosen)
+    let some = c .before .if1 .left in
+    numbers-list (start chosen .pre .0 .held) (start chosen .args .dim) _ _ (c .numbers-of2 .ensures) (omega arith) (omega arith) (omega arith) (m-is chosen)
 
 of-requires : tie.Need-of-requires
 of-requires c κs = search needs
 
 add-of : tie.Need-add-of
-add-of c = record { fits = omega (arith, small-dim (c .before .before .before .before .before .before .before .before .before .before .before .before .before)) }
+add-of c = record { fits = omega (arith, small-dim (c .before .before .before .before .before .before .before .before .before .before .before)) }
 
 of-requires-2 : tie.Need-of-requires-2
 of-requires-2 c κs = search needs
 
+add-numbers-of : tie.Need-add-numbers-of
+add-numbers-of c = record { fits = omega (arith, small-dim (c .before .before .before .before .before .before .before .before .before .before .before .before)) }
+
 numbers-of-requires : tie.Need-numbers-of-requires
 numbers-of-requires c κs = search needs
-
-links-of-requires : tie.Need-links-of-requires
-links-of-requires c κs = search needs
-
-links-of-requires-2 : tie.Need-links-of-requires-2
-links-of-requires-2 c κs = search needs
-
-add-numbers-of : tie.Need-add-numbers-of
-add-numbers-of c = record { fits = omega (arith, small-dim (c .before .before .before .before .before .before .before .before .before .before .before .before .before .before .before .before .before)) }
-
-numbers-of-requires-2 : tie.Need-numbers-of-requires-2
-numbers-of-requires-2 c κs = search needs
 
 slice-aggregate-class : tie.Need-slice-aggregate-class
 slice-aggregate-class c = search needs
 
 add-class : tie.Need-add-class
-add-class c = record { fits = omega (arith, small-dim (c .before .before .before .before .before .before .before .before .before .before .before .before .before .before .before .before .before .before .before .before)) }
+add-class c = record { fits = omega (arith, small-dim (c .before .before .before .before .before .before .before .before .before .before .before .before .before .before .before)) }
 
 class-requires : tie.Need-class-requires
-class-requires c κs =
+class-requires c κs = 
     let chosen = c .before .before in (
-      matrix-in (start chosen .pre .0 .held) (start chosen .args .dim) _ _ (chosen .before .before .before .numbers-of .ensures)
-          (chosen .before .before .links-of .ensures) (chosen .before .links-of2 .ensures) (chosen .numbers-of2 .ensures) (small-dim (start chosen))
-          (m-is chosen) (n-is chosen),
+      matrix-in (start chosen .pre .0 .held) (start chosen .args .dim) _ _ (chosen .numbers-of .ensures) (small-dim (start chosen)) (m-is chosen) (n-is chosen),
       (few chosen, (omega (arith, room-small, start chosen .pre .1 .1 .1 .1), refl)),
     )
 
@@ -102,7 +90,7 @@ slice-aggregate-number-vertices : tie.Need-slice-aggregate-number-vertices
 slice-aggregate-number-vertices c = search needs
 
 number-vertices-requires : tie.Need-number-vertices-requires
-number-vertices-requires c κs =
+number-vertices-requires c κs = 
     let chosen = c .before .before .before .before .before .before .before .before in
     (omega (arith, few chosen, length-replicate {A = ℕ} 512 0), omega (arith, few chosen))
 
@@ -119,7 +107,7 @@ part-put-chain-end : tie.Need-part-put-chain-end
 part-put-chain-end c = search needs
 
 put-chain-requires : tie.Need-put-chain-requires
-put-chain-requires c κs =
+put-chain-requires c κs = 
     let named = c .before .before .before .before .before in
     let chosen = named .before .before .before .before .before .before .before .before .before in (
       (omega arith, omega arith),
@@ -144,13 +132,14 @@ returns c = λ k.
     let chosen = done .before .before .before in
     answers-class k (start chosen .pre .1 .0) _ (start chosen .pre .1 .1 .0) (vertices-listed named)
     (done .class .ensures
-    (matrix-in (start chosen .pre .0 .held) (start chosen .args .dim) _ _ (chosen .before .before .before .numbers-of .ensures)
-    (chosen .before .before .links-of .ensures) (chosen .before .links-of2 .ensures) (chosen .numbers-of2 .ensures) (small-dim (start chosen))
-    (m-is chosen) (n-is chosen)))
+    (matrix-in (start chosen .pre .0 .held) (start chosen .args .dim) _ _ (chosen .numbers-of .ensures) (small-dim (start chosen)) (m-is chosen) (n-is chosen)))
     (put .put-chain .ensures)
 
+numbers-of-requires-2 : tie.Need-numbers-of-requires-2
+numbers-of-requires-2 c κs = search needs
+
 add-put-chain : tie.Need-add-put-chain
-add-put-chain c = record { fits = omega (arith, small-dim (c .before .before .before .before .before .before .before .before .before .before .before .before .before .before .before .before .before .before .before .before .before .before .before .before .before .before)) }
+add-put-chain c = record { fits = omega (arith, small-dim (c .before .before .before .before .before .before .before .before .before .before .before .before .before .before .before .before .before .before .before .before .before .before)) }
 
 sub-put-chain-2 : tie.Need-sub-put-chain-2
 sub-put-chain-2 c = search needs
@@ -162,13 +151,13 @@ part-put-chain-end-2 : tie.Need-part-put-chain-end-2
 part-put-chain-end-2 c = search needs
 
 put-chain-requires-2 : tie.Need-put-chain-requires-2
-put-chain-requires-2 c κs =
-    let other = c .before .before .before in
-    let chosen = other .before .before .before .before .before .before .before in (
+put-chain-requires-2 c κs = 
+    let rows = c .before .before .before in
+    let chosen = rows .before .before .before .before .before .before .before .before in (
       (omega arith, omega (arith, small-dim (start chosen))),
       (
-        numbers-fit (start chosen .pre .0 .held) _ _ (chosen .before .before .before .numbers-of .ensures) (m-is chosen),
-        le-trans (members-room (lists (start chosen)) (start chosen .pre .0 .held .sound) (start chosen .args .dim) _ (rows-listed other) _) (start chosen .pre .1 .1 .1 .0),
+        numbers-fit (start chosen .pre .0 .held) _ _ (rows .numbers-of2 .ensures) (m-is chosen),
+        le-trans (members-room (lists (start chosen)) (start chosen .pre .0 .held .sound) (start chosen .args .dim) _ (rows-listed rows) _) (start chosen .pre .1 .1 .1 .0),
       ),
     )
 
@@ -182,14 +171,12 @@ returns-2 : tie.Need-returns-2
 unfolding halfR matrix-in
 returns-2 c = λ k.
     let put = c .before .before in
-    let other = put .before .before .before .before in
-    let done = other .before .before .before .before in
+    let rows = put .before .before .before .before in
+    let done = rows .before .before .before .before .before in
     let chosen = done .before .before .before in
-    answers-class k (start chosen .pre .1 .0) _ (start chosen .pre .1 .1 .0) (rows-listed other)
+    answers-class k (start chosen .pre .1 .0) _ (start chosen .pre .1 .1 .0) (rows-listed rows)
     (done .class .ensures
-    (matrix-in (start chosen .pre .0 .held) (start chosen .args .dim) _ _ (chosen .before .before .before .numbers-of .ensures)
-    (chosen .before .before .links-of .ensures) (chosen .before .links-of2 .ensures) (chosen .numbers-of2 .ensures) (small-dim (start chosen))
-    (m-is chosen) (n-is chosen)))
+    (matrix-in (start chosen .pre .0 .held) (start chosen .args .dim) _ _ (chosen .numbers-of .ensures) (small-dim (start chosen)) (m-is chosen) (n-is chosen)))
     (put .put-chain2 .ensures)
 
 pub answer-class-spec : {M : Type 1} → statement M
@@ -199,11 +186,8 @@ answer-class-spec =
     of-requires
     add-of
     of-requires-2
-    numbers-of-requires
-    links-of-requires
-    links-of-requires-2
     add-numbers-of
-    numbers-of-requires-2
+    numbers-of-requires
     slice-aggregate-class
     add-class
     class-requires
@@ -217,6 +201,7 @@ answer-class-spec =
     same-length
     same-length-2
     returns
+    numbers-of-requires-2
     add-put-chain
     sub-put-chain-2
     part-put-chain-start-2

@@ -4,6 +4,7 @@ use Prim.Native.Nat.{_+_, _≤_}
 use native.Mathlib.Omega.{arith}
 use native.Mathlib.Nat.{le-trans}
 use mathlib.Core.Path.{_≡_, refl, sym, subst}
+use mathlib.Core.Bool.{true}
 use lib.ListN.{length}
 use borrow.Author.Tests.{not-true, not-false}
 use Rattle.chains.specs.Chain.{empty}
@@ -30,29 +31,41 @@ lists start =
 small-dim : (start : tie.Start) → start .args .dim ≤ 2
 small-dim start = subst (λ n. n ≤ 2) (sym (start .pre .1 .0)) (dimension-few (questionOf (start .args .read .head .question)) (start .args .read .head .d) (start .pre .0 .head .dimension))
 
--- what is known once the arrays are chosen
-module _ (c : tie.After-numbers-of2) where
+-- what is known once the sides are chosen
+module _ (c : tie.After-numbers-of) where
   abbrev start : tie.Start
-  start = c .before .before .before .before .before .before .before .before .before .before .before .before .before .before .before .before .before .before .before .before
+  start = c .before .before .before .before .before .before .before .before .before .before .before .before .before .before .before
 
-  m-is : c .before .before .before .before .before .of .result ≡ length (simplices (lists start) (start .args .dim))
-  m-is = c .before .before .before .before .before .of .ensures (lists start) (held-counted (start .pre .0 .held))
+  m-is : c .before .before .of .result ≡ length (simplices (lists start) (start .args .dim))
+  m-is = c .before .before .of .ensures (lists start) (held-counted (start .pre .0 .held))
 
-  n-is : c .before .before .before .before .of2 .result ≡ length (simplices (lists start) (start .args .dim + 1))
-  n-is = c .before .before .before .before .of2 .ensures (lists start) (held-counted (start .pre .0 .held))
+  n-is : c .before .of2 .result ≡ length (simplices (lists start) (start .args .dim + 1))
+  n-is = c .before .of2 .ensures (lists start) (held-counted (start .pre .0 .held))
 
-  few : c .before .before .before .before .before .of .result ≤ 512
+  few : c .before .before .of .result ≤ 512
   few = subst (λ n. n ≤ 512) (sym m-is) (few-simplices (lists start) (start .pre .0 .held .sound) _)
 
-  -- the patch is made of the columns
-  patch-list : simplicesIn (start .args .dim + 2) (c .numbers-of2 .result .now) (c .before .before .before .before .of2 .result)
-      ≡ simplices (lists start) (start .args .dim + 1)
+  -- and the rim is closed
+  abbrev rim : tie.After-rim-closed
+  rim = c .before .before .before .before .before .before .before
+
+  closed : rim .rim-closed .result ≡ true
+  closed = not-false _ (c .before .before .before .before .before .before .if1 .left)
+
+-- the patch is made of the columns
+module _ (c : tie.After-numbers-of2) where
+  abbrev before-search : tie.After-numbers-of
+  before-search = c .before .before .before .before .before .before .before .before .before
+
+  patch-list : simplicesIn (start before-search .args .dim + 2) (c .numbers-of2 .result .now) (before-search .before .of2 .result)
+      ≡ simplices (lists (start before-search)) (start before-search .args .dim + 1)
   patch-list =
-      let d = small-dim start in
-      numbers-list (start .pre .0 .held) (start .args .dim + 1) _ _ (c .numbers-of2 .ensures) (omega arith) (omega arith) (omega arith) n-is
+      let d = small-dim (start before-search) in
+      numbers-list (start before-search .pre .0 .held) (start before-search .args .dim + 1) _ _ (c .numbers-of2 .ensures) (omega arith) (omega arith) (omega arith)
+      (n-is before-search)
 
 rim-closed-requires : tie.Need-rim-closed-requires
-rim-closed-requires c κs = let start = c .before .before .before .before .before .before .before .before .before in (start .pre .0, small-dim start)
+rim-closed-requires c κs = let start = c .before .before .before .before .before .before .before in (start .pre .0, small-dim start)
 
 put-refusal-requires : tie.Need-put-refusal-requires
 put-refusal-requires c κs = search needs
@@ -64,45 +77,34 @@ returns : tie.Need-returns
 returns c = λ k.
     let put = c .before .before in
     let rim = put .before .before .before in
-    let start = rim .before .before .before .before .before .before .before .before .before .before in
+    let start = rim .before .before .before .before .before .before .before .before in
     answers-open k (start .pre .1 .0) (rim .rim-closed .ensures) (start .pre .1 .1 .0) (not-true _ (put .before .before .if1 .taken)) (put .put-refusal .ensures)
 
 of-requires : tie.Need-of-requires
 of-requires c κs = search needs
 
 add-of : tie.Need-add-of
-add-of c = record { fits = omega (arith, small-dim (c .before .before .before .before .before .before .before .before .before .before .before .before .before .before .before)) }
+add-of c = record { fits = omega (arith, small-dim (c .before .before .before .before .before .before .before .before .before .before .before .before .before)) }
 
 of-requires-2 : tie.Need-of-requires-2
 of-requires-2 c κs = search needs
 
+add-numbers-of : tie.Need-add-numbers-of
+add-numbers-of c = record { fits = omega (arith, small-dim (c .before .before .before .before .before .before .before .before .before .before .before .before .before .before)) }
+
 numbers-of-requires : tie.Need-numbers-of-requires
 numbers-of-requires c κs = search needs
-
-links-of-requires : tie.Need-links-of-requires
-links-of-requires c κs = search needs
-
-links-of-requires-2 : tie.Need-links-of-requires-2
-links-of-requires-2 c κs = search needs
-
-add-numbers-of : tie.Need-add-numbers-of
-add-numbers-of c = record { fits = omega (arith, small-dim (c .before .before .before .before .before .before .before .before .before .before .before .before .before .before .before .before .before .before .before)) }
-
-numbers-of-requires-2 : tie.Need-numbers-of-requires-2
-numbers-of-requires-2 c κs = search needs
 
 slice-aggregate-fill : tie.Need-slice-aggregate-fill
 slice-aggregate-fill c = search needs
 
 add-fill : tie.Need-add-fill
-add-fill c = record { fits = omega (arith, small-dim (c .before .before .before .before .before .before .before .before .before .before .before .before .before .before .before .before .before .before .before .before .before .before)) }
+add-fill c = record { fits = omega (arith, small-dim (c .before .before .before .before .before .before .before .before .before .before .before .before .before .before .before .before .before)) }
 
 fill-requires : tie.Need-fill-requires
-fill-requires c κs =
+fill-requires c κs = 
     let chosen = c .before .before in (
-      matrix-in (start chosen .pre .0 .held) (start chosen .args .dim) _ _ (chosen .before .before .before .numbers-of .ensures)
-          (chosen .before .before .links-of .ensures) (chosen .before .links-of2 .ensures) (chosen .numbers-of2 .ensures) (small-dim (start chosen))
-          (m-is chosen) (n-is chosen),
+      matrix-in (start chosen .pre .0 .held) (start chosen .args .dim) _ _ (chosen .numbers-of .ensures) (small-dim (start chosen)) (m-is chosen) (n-is chosen),
       (few chosen, (omega (arith, room-small, start chosen .pre .1 .1 .1 .1), refl)),
     )
 
@@ -110,13 +112,19 @@ enum-told : tie.Need-enum-told
 enum-told c = search needs
 
 put-refusal-requires-2 : tie.Need-put-refusal-requires-2
-put-refusal-requires-2 c κs = omega (arith, c .before .before .before .before .before .before .before .before .before .before .before .before .before .before .before .before .before .before .before .before .before .before .before .before .before .before .before .before .before .pre .1 .1 .1 .0)
+put-refusal-requires-2 c κs = omega (arith, c .before .before .before .before .before .before .before .before .before .before .before .before .before .before .before .before .before .before .before .before .before .before .before .before .pre .1 .1 .1 .0)
 
 enum-told-2 : tie.Need-enum-told-2
 enum-told-2 c = search needs
 
+add-numbers-of-2 : tie.Need-add-numbers-of-2
+add-numbers-of-2 c = record { fits = omega (arith, small-dim (c .before .before .before .before .before .before .before .before .before .before .before .before .before .before .before .before .before .before .before .before .before .before .before)) }
+
+numbers-of-requires-2 : tie.Need-numbers-of-requires-2
+numbers-of-requires-2 c κs = search needs
+
 add-put-chain : tie.Need-add-put-chain
-add-put-chain c = record { fits = omega (arith, small-dim (c .before .before .before .before .before .before .before .before .before .before .before .before .before .before .before .before .before .before .before .before .before .before .before .before .before .before .before .before .before)) }
+add-put-chain c = record { fits = omega (arith, small-dim (c .before .before .before .before .before .before .before .before .before .before .before .before .before .before .before .before .before .before .before .before .before .before .before .before .before)) }
 
 sub-put-chain : tie.Need-sub-put-chain
 sub-put-chain c = search needs
@@ -128,12 +136,13 @@ part-put-chain-end : tie.Need-part-put-chain-end
 part-put-chain-end c = search needs
 
 put-chain-requires : tie.Need-put-chain-requires
-put-chain-requires c κs =
-    let chosen = c .before .before .before .before .before .before .before .before .before .before .before in (
+put-chain-requires c κs = 
+    let cols = c .before .before .before in
+    let chosen = cols .before .before .before .before .before .before .before .before .before in (
       (omega arith, omega (arith, small-dim (start chosen))),
       (
-        numbers-fit (start chosen .pre .0 .held) _ _ (chosen .numbers-of2 .ensures) (n-is chosen),
-        le-trans (members-room (lists (start chosen)) (start chosen .pre .0 .held .sound) (start chosen .args .dim + 1) _ (patch-list chosen) _) (start chosen .pre .1 .1 .1 .0),
+        numbers-fit (start chosen .pre .0 .held) _ _ (cols .numbers-of2 .ensures) (n-is chosen),
+        le-trans (members-room (lists (start chosen)) (start chosen .pre .0 .held .sound) (start chosen .args .dim + 1) _ (patch-list cols) _) (start chosen .pre .1 .1 .1 .0),
       ),
     )
 
@@ -150,12 +159,10 @@ returns-2 c = λ k.
     let told = put .before .before in
     let done = told .before .before .before .before .before in
     let chosen = done .before .before .before in
-    let rim = chosen .before .before .before .before .before .before .before .before .before .before in
-    answers-unfilled k (start chosen .pre .1 .0) (rim .rim-closed .ensures) (start chosen .pre .1 .1 .0) (not-false _ (chosen .before .before .before .before .before .before .before .before .before .if1 .left)) empty
+    answers-unfilled k (start chosen .pre .1 .0) (rim chosen .rim-closed .ensures) (start chosen .pre .1 .1 .0) (closed chosen) empty
     (fill-says (done .fill .ensures
-    (matrix-in (start chosen .pre .0 .held) (start chosen .args .dim) _ _ (chosen .before .before .before .numbers-of .ensures)
-    (chosen .before .before .links-of .ensures) (chosen .before .links-of2 .ensures) (chosen .numbers-of2 .ensures) (small-dim (start chosen))
-    (m-is chosen) (n-is chosen))) (told .enum-told .given .1))
+    (matrix-in (start chosen .pre .0 .held) (start chosen .args .dim) _ _ (chosen .numbers-of .ensures) (small-dim (start chosen)) (m-is chosen) (n-is chosen)))
+    (told .enum-told .given .1))
     (put .put-refusal2 .ensures)
 
 same-length-4 : tie.Need-same-length-4
@@ -168,16 +175,15 @@ returns-3 : tie.Need-returns-3
 unfolding halfV matrix-in
 returns-3 c = λ k.
     let put = c .before .before in
-    let told = put .before .before .before .before in
+    let cols = put .before .before .before .before in
+    let told = cols .before in
     let done = told .before .before .before .before .before in
     let chosen = done .before .before .before in
-    let rim = chosen .before .before .before .before .before .before .before .before .before .before in
-    answers-patch k (start chosen .pre .1 .0) (rim .rim-closed .ensures) (start chosen .pre .1 .1 .0) (not-false _ (chosen .before .before .before .before .before .before .before .before .before .if1 .left)) _
-    (patch-list chosen)
+    answers-patch k (start chosen .pre .1 .0) (rim chosen .rim-closed .ensures) (start chosen .pre .1 .1 .0) (closed chosen) _
+    (patch-list cols)
     (fill-says (done .fill .ensures
-    (matrix-in (start chosen .pre .0 .held) (start chosen .args .dim) _ _ (chosen .before .before .before .numbers-of .ensures)
-    (chosen .before .before .links-of .ensures) (chosen .before .links-of2 .ensures) (chosen .numbers-of2 .ensures) (small-dim (start chosen))
-    (m-is chosen) (n-is chosen))) (told .enum-told2 .given .1))
+    (matrix-in (start chosen .pre .0 .held) (start chosen .args .dim) _ _ (chosen .numbers-of .ensures) (small-dim (start chosen)) (m-is chosen) (n-is chosen)))
+    (told .enum-told2 .given .1))
     (put .put-chain .ensures)
 
 pub answer-fill-spec : {M : Type 1} → statement M
@@ -191,17 +197,16 @@ answer-fill-spec =
     of-requires
     add-of
     of-requires-2
-    numbers-of-requires
-    links-of-requires
-    links-of-requires-2
     add-numbers-of
-    numbers-of-requires-2
+    numbers-of-requires
     slice-aggregate-fill
     add-fill
     fill-requires
     enum-told
     put-refusal-requires-2
     enum-told-2
+    add-numbers-of-2
+    numbers-of-requires-2
     add-put-chain
     sub-put-chain
     part-put-chain-start

@@ -10,12 +10,12 @@ chain-dimension-requires c κs = search needs
 
 answer-fill-requires : tie.Need-answer-fill-requires
 answer-fill-requires c κs =
-    let start = c .before .before .before .before .before .before .before .before .before .before .before .before .before .before .before in
+    let start = c .before .before .before .before .before .before .before .before .before .before .before .before .before in
     (start .pre .0, (c .before .before .before .before .chain-dimension .ensures, (asks-filling _ (c .before .before .if1 .taken), (start .pre .1 .0, start .pre .1 .1))))
 
 answer-class-requires : tie.Need-answer-class-requires
 answer-class-requires c κs =
-    let start = c .before .before .before .before .before .before .before .before .before .before .before .before .before .before .before in
+    let start = c .before .before .before .before .before .before .before .before .before .before .before .before .before in
     (start .pre .0, (c .before .before .before .before .chain-dimension .ensures, (asks-class _ (c .before .before .if1 .left), (start .pre .1 .0, start .pre .1 .1))))
 
 same-length : tie.Need-same-length
