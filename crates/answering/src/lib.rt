@@ -92,15 +92,7 @@ fn answer_fill<'a>(
     requires { ⌜ 65536 ≤ length (now work) ⌝ }
     ensures { λ r. ⌜ ((k : Asking read (now («e_keys» .entry)) (now («t_keys» .entry)) (now («s_keys» .entry)) (now («t_sides» .entry)) (now («s_sides» .entry))) → Answers (jobIn read (now («e_keys» .entry)) (now («t_keys» .entry)) (now («s_keys» .entry)) (k .set)) (now (out .entry)) (now (out .exit)) r) ⌝ }
 {
-    let closed = rim_closed(
-        read,
-        dim,
-        e_keys,
-        t_keys,
-        s_keys,
-        t_sides,
-        s_sides,
-    );
+    let closed = rim_closed(read, dim, e_keys, t_keys, s_keys, t_sides, s_sides);
     if !closed {
         return answers::put_refusal(out, Verdict::RIM_OPEN, 0);
     }

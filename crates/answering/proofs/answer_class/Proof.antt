@@ -80,7 +80,7 @@ add-class : tie.Need-add-class
 add-class c = record { fits = omega (arith, small-dim (c .before .before .before .before .before .before .before .before .before .before .before .before .before .before .before)) }
 
 class-requires : tie.Need-class-requires
-class-requires c κs = 
+class-requires c κs =
     let chosen = c .before .before in (
       matrix-in (start chosen .pre .0 .held) (start chosen .args .dim) _ _ (chosen .numbers-of .ensures) (small-dim (start chosen)) (m-is chosen) (n-is chosen),
       (few chosen, (omega (arith, room-small, start chosen .pre .1 .1 .1 .1), refl)),
@@ -90,7 +90,7 @@ slice-aggregate-number-vertices : tie.Need-slice-aggregate-number-vertices
 slice-aggregate-number-vertices c = search needs
 
 number-vertices-requires : tie.Need-number-vertices-requires
-number-vertices-requires c κs = 
+number-vertices-requires c κs =
     let chosen = c .before .before .before .before .before .before .before .before in
     (omega (arith, few chosen, length-replicate {A = ℕ} 512 0), omega (arith, few chosen))
 
@@ -107,7 +107,7 @@ part-put-chain-end : tie.Need-part-put-chain-end
 part-put-chain-end c = search needs
 
 put-chain-requires : tie.Need-put-chain-requires
-put-chain-requires c κs = 
+put-chain-requires c κs =
     let named = c .before .before .before .before .before in
     let chosen = named .before .before .before .before .before .before .before .before .before in (
       (omega arith, omega arith),
@@ -151,7 +151,7 @@ part-put-chain-end-2 : tie.Need-part-put-chain-end-2
 part-put-chain-end-2 c = search needs
 
 put-chain-requires-2 : tie.Need-put-chain-requires-2
-put-chain-requires-2 c κs = 
+put-chain-requires-2 c κs =
     let rows = c .before .before .before in
     let chosen = rows .before .before .before .before .before .before .before .before in (
       (omega arith, omega (arith, small-dim (start chosen))),

@@ -102,7 +102,7 @@ add-fill : tie.Need-add-fill
 add-fill c = record { fits = omega (arith, small-dim (c .before .before .before .before .before .before .before .before .before .before .before .before .before .before .before .before .before)) }
 
 fill-requires : tie.Need-fill-requires
-fill-requires c κs = 
+fill-requires c κs =
     let chosen = c .before .before in (
       matrix-in (start chosen .pre .0 .held) (start chosen .args .dim) _ _ (chosen .numbers-of .ensures) (small-dim (start chosen)) (m-is chosen) (n-is chosen),
       (few chosen, (omega (arith, room-small, start chosen .pre .1 .1 .1 .1), refl)),
@@ -136,7 +136,7 @@ part-put-chain-end : tie.Need-part-put-chain-end
 part-put-chain-end c = search needs
 
 put-chain-requires : tie.Need-put-chain-requires
-put-chain-requires c κs = 
+put-chain-requires c κs =
     let cols = c .before .before .before in
     let chosen = cols .before .before .before .before .before .before .before .before .before in (
       (omega arith, omega (arith, small-dim (start chosen))),

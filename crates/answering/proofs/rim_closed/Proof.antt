@@ -65,7 +65,7 @@ add-rim-closed : tie.Need-add-rim-closed
 add-rim-closed c = search needs
 
 rim-closed-requires : tie.Need-rim-closed-requires
-rim-closed-requires c κs = 
+rim-closed-requires c κs =
     let chosen = c .before in (
       matrix-in (start chosen .pre .0 .held) (start chosen .args .dim - 1) _ _ (chosen .numbers-of .ensures) (below chosen) (m-is chosen) (n-is chosen),
       (few chosen, refl),

@@ -29,7 +29,7 @@ slice-aggregate-read-lists-2 : tie.Need-slice-aggregate-read-lists-2
 slice-aggregate-read-lists-2 c = search needs
 
 read-lists-requires : tie.Need-read-lists-requires
-read-lists-requires c κs = 
+read-lists-requires c κs =
     let room = c .before .before .before .before .before .before .before .before .before .before .before .before .before .pre .1 .1 in
     (room, record { keys-room = room .edges; next-room = omega (arith, length-replicate {A = ℕ} 512 0); none = refl })
 
@@ -55,7 +55,7 @@ same-length-5 : tie.Need-same-length-5
 same-length-5 c = search needs
 
 returns : tie.Need-returns
-returns c = 
+returns c =
     let told = c .before .before in
     let read = told .before .before .before .before .before .before .before .before .before .before .before .before .before .before in
     let a = begin read .args in
@@ -73,7 +73,7 @@ slice-aggregate-after-lists-2 : tie.Need-slice-aggregate-after-lists-2
 slice-aggregate-after-lists-2 c = search needs
 
 after-lists-requires : tie.Need-after-lists-requires
-after-lists-requires c κs = 
+after-lists-requires c κs =
     let told = c .before .before .before .before .before .before .before .before in
     let read = told .before .before .before .before .before .before .before .before .before .before .before .before .before .before in
     let fine = told .enum-told .given .1 in
@@ -96,7 +96,7 @@ same-length-10 : tie.Need-same-length-10
 same-length-10 c = last-read c .after-lists .kept .1 .1 .1 .1 .1 .1 .1 .1 .1 .1 .0 ∙ lists-read c .read-lists .kept .1 .1 .1 .1 .1 .1 .1 .1 .1 .0
 
 returns-2 : tie.Need-returns-2
-returns-2 c = 
+returns-2 c =
     let done = last-read c in
     let read = lists-read c in
     let a = begin read .args in

@@ -32,7 +32,7 @@ of-requires : tie.Need-of-requires
 of-requires c κs = search needs
 
 read-chain-requires : tie.Need-read-chain-requires
-read-chain-requires c κs = 
+read-chain-requires c κs =
     let counted = c .before in
     let start = counted .before .before .before .before .before .before .before .before .before .before in
     let held = start .pre .1 .1 .0 in
@@ -50,7 +50,7 @@ same-length : tie.Need-same-length
 same-length c = search needs
 
 returns : tie.Need-returns
-returns c = 
+returns c =
     let told = c .before .before in
     let read = told .before .before in
     let start = begin read in
@@ -81,7 +81,7 @@ same-length-6 : tie.Need-same-length-6
 same-length-6 c = search needs
 
 returns-2 : tie.Need-returns-2
-returns-2 c = 
+returns-2 c =
     let done = c .before .before .before .before .before .before .before .before .before .before .before .before in
     let told = done .before .before .before .before .before .before .before in
     let read = told .before .before in

@@ -43,17 +43,17 @@ slice-aggregate-complex-of-3 : tie.Need-slice-aggregate-complex-of-3
 slice-aggregate-complex-of-3 c = search needs
 
 complex-of-requires : tie.Need-complex-of-requires
-complex-of-requires c κs = 
+complex-of-requires c κs =
     let told = c .before .before .before .before .before .before in
     held-roomy (told .before .before .before .before .before .before .before .read-numbers .ensures .held (told .enum-told .given .1))
 
 returns : tie.Need-returns
-returns c = 
+returns c =
     let told = c .before .before in
     outcome-refused (told .before .before .before .before .before .before .before .read-numbers .ensures) (c .refused .result) _ _ (told .verdict .given .1) (c .refused .ensures)
 
 returns-2 : tie.Need-returns-2
-returns-2 c = 
+returns-2 c =
     let told = c .before .before .before .before .before .before .before in
     outcome-fine (told .before .before .before .before .before .before .before .read-numbers .ensures) (c .complex-of .result) (told .enum-told .given .1) (c .complex-of .ensures)
 

@@ -104,7 +104,7 @@ slice-aggregate-read-list-2 : tie.Need-slice-aggregate-read-list-2
 slice-aggregate-read-list-2 c = search needs
 
 read-list-requires : tie.Need-read-list-requires
-read-list-requires c κs = 
+read-list-requires c κs =
     let start = c .before .before .before .before .before .before .before .before .before .before .before .before .before .before .before in
     ((omega arith, omega arith), (chained-none _ _, (start .pre .1, (omega arith, λ wide. absurd (omega arith)))))
 
@@ -130,7 +130,7 @@ same-length-5 : tie.Need-same-length-5
 same-length-5 c = search needs
 
 returns : tie.Need-returns
-returns c = 
+returns c =
     let told = c .before .before in
     let read = told .before .before .before .before .before .before .before .before .before .before in
     lists-told-refused (c .refused .result) (c .refused .ensures)
@@ -147,7 +147,7 @@ slice-aggregate-read-list-4 : tie.Need-slice-aggregate-read-list-4
 slice-aggregate-read-list-4 c = search needs
 
 read-list-requires-2 : tie.Need-read-list-requires-2
-read-list-requires-2 c κs = 
+read-list-requires-2 c κs =
     let e = first-read (c .before .before .before .before .before .before .before) in (
       (omega arith, omega arith),
       (
@@ -184,7 +184,7 @@ same-length-11 : tie.Need-same-length-11
 same-length-11 c = first-read (over-edges (c .before .before .before .before .before .before .before .before .before .before)) .read-list .kept .1 .1 .1 .1 .1 .1 .1 .1 .1 .1 .1 .0
 
 returns-2 : tie.Need-returns-2
-returns-2 c = 
+returns-2 c =
     let told = c .before .before in
     let read = told .before .before .before .before .before .before .before .before in
     let e = first-read (over-edges read) in
@@ -208,7 +208,7 @@ slice-aggregate-read-list-8 : tie.Need-slice-aggregate-read-list-8
 slice-aggregate-read-list-8 c = search needs
 
 read-list-requires-3 : tie.Need-read-list-requires-3
-read-list-requires-3 c κs = 
+read-list-requires-3 c κs =
     let told = c .before .before .before .before .before .before .before in
     let e = before-them told in (
       (omega arith, omega arith),
@@ -243,7 +243,7 @@ same-length-18 : tie.Need-same-length-18
 same-length-18 c = last-read c .read-list3 .kept .1 .1 .1 .1 .1 .1 .1 .1 .1 .1 .1 .0 ∙ before-them (lists-read c) .read-list .kept .1 .1 .1 .1 .1 .1 .1 .1 .1 .1 .1 .0
 
 returns-3 : tie.Need-returns-3
-returns-3 c = 
+returns-3 c =
     let read = last-read c in
     let told = lists-read c in
     let e = before-them told in
