@@ -175,13 +175,13 @@ pub fn find_sides(
     requires { ⌜ (width ≤ 4) × (m ≤ 65536) × (n ≤ length (now keys)) × (n ≤ length (now sides)) ⌝ }
     ensures { λ _. ⌜ ((faces l : List format.Simplex) → Proper (width - 1) faces → Keyed faces (now («face_keys» .entry)) m → Proper width l → Keyed l (now (keys .entry)) n → Closed faces l → Sided faces l (now (sides .exit)) n) ⌝ }
 {
-    let mut i = 0;
-    while i < n {
-        let found = facet_ranks(face_keys, face_first, face_next, m, keys[i], width);
+    let mut rank = 0;
+    while rank < n {
+        let found = facet_ranks(face_keys, face_first, face_next, m, keys[rank], width);
         let Facets::Ranked(ranks) = found else {
             return;
         };
-        sides[i] = ranks;
-        i += 1;
+        sides[rank] = ranks;
+        rank += 1;
     }
 }

@@ -8,10 +8,10 @@ use Rattle.lookup.proofs.find_sides.Statement.{statement}
 use Rattle.lookup.proofs.find_sides.Tie as tie
 
 abbrev Inv-loop : tie.InvT-loop
-Inv-loop face-keys face-first face-next m keys n width sides₀ i₀ sides i = SidesFound face-keys m keys n width sides₀ sides i
+Inv-loop face-keys face-first face-next m keys n width sides₀ rank₀ sides rank = SidesFound face-keys m keys n width sides₀ sides rank
 
 abbrev μ-loop : tie.MeasureT-loop
-μ-loop face-keys face-first face-next m keys n width sides₀ i₀ sides i = n - i
+μ-loop face-keys face-first face-next m keys n width sides₀ rank₀ sides rank = n - rank
 
 loop-holds : tie.Need-loop-holds Inv-loop μ-loop
 loop-holds c = finding-start _ _ _ _ _ _
@@ -47,8 +47,8 @@ mul-sides c = search needs
 slice-write-sides : tie.Need-slice-write-sides Inv-loop μ-loop
 slice-write-sides c = search needs
 
-add-i : tie.Need-add-i Inv-loop μ-loop
-add-i c = search needs
+add-rank : tie.Need-add-rank Inv-loop μ-loop
+add-rank c = search needs
 
 loop-less : tie.Need-loop-less Inv-loop μ-loop
 loop-less c = search needs
@@ -84,7 +84,7 @@ find-sides-spec =
     returns
     mul-sides
     slice-write-sides
-    add-i
+    add-rank
     loop-less
     loop-again
     same-length-2
