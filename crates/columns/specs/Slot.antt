@@ -1,12 +1,13 @@
 -- The lent work memory is 8·h slots of 2·h bytes, for a half size h. A slot, like the column in hand, is two columns
 -- of h bytes: first R, the reduced column, then V, the set of original columns that R is the sum of. Slot r is for the
--- reduced column whose highest rank is r.
-use Prim.Native.Nat.{ℕ, _+_, _*_, _/_}
-use mathlib.Core.Bool.{Bool}
+-- reduced column whose highest rank is r. Which slots hold a column stands in an array of its own, `taken`: a slot that
+-- is not taken is not read, whatever its bytes are.
+use Prim.Native.Nat.{ℕ, _+_, _*_}
+use mathlib.Core.Bool.{Bool, false}
 use mathlib.Core.List.{List, _++_}
-use lib.ListN.{take, drop, set}
+use lib.ListN.{take, drop, getD}
 use Rattle.chains.specs.Chain.{Chain}
-use Rattle.columns.specs.Column.{bitAt, chainOf}
+use Rattle.columns.specs.Column.{chainOf}
 
 -- how many bytes all slots take
 unfoldable pub roomOf : ℕ → ℕ
@@ -26,21 +27,13 @@ chainR h c = chainOf (halfR h c)
 abbrev pub chainV : ℕ → List ℕ → Chain
 chainV h c = chainOf (halfV h c)
 
--- the bytes of slot r, and its first half
+-- the bytes of slot r
 unfoldable pub slot : ℕ → List ℕ → ℕ → List ℕ
 slot h work r = take (2 * h) (drop (r * (2 * h)) work)
 
-abbrev pub slotR : ℕ → List ℕ → ℕ → List ℕ
-slotR h work r = halfR h (slot h work r)
-
--- a slot is occupied when its reduced column holds the slot's own rank
-abbrev pub occupiedAt : ℕ → List ℕ → ℕ → Bool
-occupiedAt h work r = bitAt (slotR h work r) r
-
--- The work memory after slot r was made vacant: the byte that holds the slot's own rank is zero. What else the slot
--- holds stays, since a vacant slot is not read.
-unfoldable pub vacated : ℕ → List ℕ → ℕ → List ℕ
-vacated h work r = set work (r * (2 * h) + r / 8) 0
+-- whether slot r holds a column; past the end of the array no slot does
+abbrev pub takenAt : List Bool → ℕ → Bool
+takenAt taken r = getD taken r false
 
 -- the work memory with slot r replaced by the first 2·h bytes of cur
 unfoldable pub storeSlot : ℕ → List ℕ → ℕ → List ℕ → List ℕ

@@ -2,19 +2,18 @@
 -- Sums are taken byte by byte, so the halves of a sum are the sums of the halves.
 use Prim.Native.Nat.{ℕ, zero, suc, _+_, _-_, _*_, _/_, _%_, _≤_, _<_}
 use mathlib.Core.Path.{_≡_, refl, sym, ap, _∙_}
-use mathlib.Core.Bool.{false}
 use mathlib.Core.Logic.{_≢_}
 use mathlib.Core.List.{List, [], _∷_, _++_, append-assoc}
 use native.Mathlib.Nat.{mul-le-mul-right, suc-mul, suc-add, zero-add, le-trans, le-of-eq, le-add-right}
 use native.Mathlib.Omega.{arith}
 use native.Mathlib.Decide.{decLt}
-use lib.ListN.{length, getD, take, drop, length-drop}
-use lib.Seq.{length-take-le, take-nil, getD-take, getD-drop, getD-set-same, getD-set-other, take-take, drop-drop, take-all, take-paste, drop-paste, take-at, drop-at}
+use lib.ListN.{length, take, drop, length-drop}
+use lib.Seq.{length-take-le, take-nil, getD-take, take-take, drop-drop, take-all, take-paste, drop-paste, take-at, drop-at}
 use lib.Bits.{bitXor}
 use Rattle.chains.specs.Chain.{_⊕_}
 use Rattle.columns.specs.Column.{bit, bitAt, chainOf, xorBytes}
-use Rattle.columns.specs.ColumnLaws.{bit-zero, chainOf-xor}
-use Rattle.columns.specs.Slot.{roomOf, halfR, halfV, chainR, chainV, slot, occupiedAt, vacated, storeSlot}
+use Rattle.columns.specs.ColumnLaws.{chainOf-xor}
+use Rattle.columns.specs.Slot.{roomOf, halfR, halfV, chainR, chainV, slot, storeSlot}
 
 -- ---- where slots lie
 
@@ -150,38 +149,3 @@ chainV-xor h a b la lb =
 pub bit-halfR : (h : ℕ) (c : List ℕ) (i : ℕ) → i < 8 * h → bitAt (halfR h c) i ≡ bitAt c i
 unfolding bitAt halfR
 bit-halfR h c i l = ap (λ (x : ℕ). bit x (i % 8)) (getD-take h c (i / 8) 0 (omega arith))
-
--- the bit that says whether a slot is occupied, in the work memory itself
-pub occupied-is : (h : ℕ) (work : List ℕ) (r : ℕ) → r < 8 * h
-    → occupiedAt h work r ≡ bit (getD work (r * (2 * h) + r / 8) 0) (r % 8)
-unfolding bitAt halfR slot
-occupied-is h work r l =
-    ap (λ (x : ℕ). bit x (r % 8))
-    (getD-take h (slot h work r) (r / 8) 0 (omega arith)
-    ∙ getD-take (2 * h) (drop (r * (2 * h)) work) (r / 8) 0 (omega arith)
-    ∙ getD-drop (r * (2 * h)) work (r / 8) 0)
-
--- ---- a slot that is made vacant
-
-module _ (h : ℕ) (work : List ℕ) (r : ℕ) (low : r < 8 * h) where
-  pub vacated-own : roomOf h ≤ length work → occupiedAt h (vacated h work r) r ≡ false
-  unfolding vacated
-  vacated-own room =
-      let ends : r * (2 * h) + 2 * h ≤ length work = slot-fits h r (length work) low room in
-      occupied-is h _ r low
-      ∙ ap (λ (x : ℕ). bit x (r % 8)) (getD-set-same work (r * (2 * h) + r / 8) 0 0 (omega arith))
-      ∙ bit-zero (r % 8)
-
-  -- the byte is in slot r, so every other slot is occupied or not as it was
-  pub vacated-other : (q : ℕ) → q < 8 * h → q ≢ r → occupiedAt h (vacated h work r) q ≡ occupiedAt h work q
-  unfolding vacated
-  vacated-other q below other =
-      occupied-is h _ q below
-      ∙ ap (λ (x : ℕ). bit x (q % 8)) (getD-set-other work (r * (2 * h) + r / 8) (q * (2 * h) + q / 8) 0 0 apart)
-      ∙ sym (occupied-is h work q below)
-    where
-      apart : q * (2 * h) + q / 8 ≢ r * (2 * h) + r / 8
-      apart e = elim (decLt q r) [
-        | yes l ↦ let before = slot-before h q r l in omega arith
-        | no m ↦ let before = slot-before h r q (omega arith) in omega arith
-      ]

@@ -1,10 +1,13 @@
 // Columns of bits in lent bytes: bit k of byte j is rank 8·j + k. The work memory is 8·h slots of
-// 2·h bytes (specs/Slot.antt); slot r is for the reduced column whose highest rank is r.
+// 2·h bytes (specs/Slot.antt); slot r is for the reduced column whose highest rank is r. Which slots
+// hold a column stands in `taken`: a slot that is not taken is not read, whatever its bytes are, so
+// the memory need not be touched before the first column.
 ghost use mathlib.Core.Path.{_≡_};
 ghost use Prim.Native.Nat.{_+_, _*_, _≤_, _<_};
-ghost use lib.ListN.{length, getD, take, replicate};
+ghost use mathlib.Core.Bool.{true};
+ghost use lib.ListN.{length, getD, set, take, replicate};
 ghost use Rattle.columns.specs.Column.{bitAt, chainOf, xorBytes, flipped, clearedFront};
-ghost use Rattle.columns.specs.Slot.{roomOf, slot, occupiedAt, vacated, storeSlot};
+ghost use Rattle.columns.specs.Slot.{roomOf, slot, storeSlot};
 ghost use Rattle.columns.specs.Search.{highestBelow};
 ghost use Rattle.columns.specs.Reduce.{redBytes, Settles, Inserts};
 
@@ -90,26 +93,6 @@ pub fn next_down(col: &[u8], from: usize) -> Highest
     Highest::Nothing
 }
 
-// Whether slot r holds a reduced column.
-pub fn occupied(work: &[u8], h: usize, r: usize) -> bool
-    requires { ⌜ r < 8 * h ⌝ }
-    requires { ⌜ roomOf h ≤ length (now work) ⌝ }
-    ensures { λ b. ⌜ b ≡ occupiedAt h (now (work .entry)) r ⌝ }
-{
-    let at = r * (2 * h) + r / 8;
-    (work[at] >> (r % 8)) % 2 == 1
-}
-
-// Makes slot r vacant, by the one byte that says whether it is occupied.
-pub fn vacate(work: &mut [u8], h: usize, r: usize)
-    requires { ⌜ r < 8 * h ⌝ }
-    requires { ⌜ roomOf h ≤ length (now work) ⌝ }
-    ensures { λ _. ⌜ now (work .exit) ≡ vacated h (now (work .entry)) r ⌝ }
-{
-    let at = r * (2 * h) + r / 8;
-    work[at] = 0;
-}
-
 // Adds slot r to the pair of columns in hand.
 pub fn add_slot(cur: &mut [u8], work: &[u8], h: usize, r: usize)
     requires { ⌜ r < 8 * h ⌝ }
@@ -139,13 +122,22 @@ pub fn store_slot(work: &mut [u8], cur: &[u8], h: usize, r: usize)
     }
 }
 
+// Says that slot r holds a column.
+fn take_slot(taken: &mut [bool], r: usize)
+    requires { ⌜ r < length (now taken) ⌝ }
+    ensures { λ _. ⌜ now (taken .exit) ≡ set (now (taken .entry)) r true ⌝ }
+{
+    taken[r] = true;
+}
+
 // Reduces the pair in hand by the slots, from row `rows` - 1 down, until it holds a row whose slot
-// is vacant, and says which.
-pub fn settle(cur: &mut [u8], work: &[u8], h: usize, rows: usize) -> Highest
+// is not taken, and says which.
+pub fn settle(cur: &mut [u8], work: &[u8], taken: &[bool], h: usize, rows: usize) -> Highest
     requires { ⌜ rows ≤ 8 * h ⌝ }
     requires { ⌜ roomOf h ≤ length (now work) ⌝ }
     requires { ⌜ length (now cur) ≡ 2 * h ⌝ }
-    ensures { λ r. ⌜ Settles h (now (work .entry)) rows (now (cur .entry)) r (now (cur .exit)) ⌝ }
+    requires { ⌜ rows ≤ length (now taken) ⌝ }
+    ensures { λ r. ⌜ Settles h (now (work .entry)) (now (taken .entry)) rows (now (cur .entry)) r (now (cur .exit)) ⌝ }
 {
     let mut left = rows;
     loop {
@@ -153,7 +145,7 @@ pub fn settle(cur: &mut [u8], work: &[u8], h: usize, rows: usize) -> Highest
         let Highest::At(r) = found else {
             return Highest::Nothing;
         };
-        if occupied(work, h, r) {
+        if taken[r] {
             add_slot(cur, work, h, r);
             left = r;
         } else {
@@ -162,30 +154,34 @@ pub fn settle(cur: &mut [u8], work: &[u8], h: usize, rows: usize) -> Highest
     }
 }
 
-// Puts what is left of the pair in hand into the slot of its highest row, unless nothing is left.
-pub fn insert(work: &mut [u8], cur: &mut [u8], h: usize, rows: usize) -> Highest
+// Puts what is left of the pair in hand into the slot of its highest row, which is taken then, unless
+// nothing is left.
+pub fn insert(work: &mut [u8], cur: &mut [u8], taken: &mut [bool], h: usize, rows: usize) -> Highest
     requires { ⌜ rows ≤ 8 * h ⌝ }
     requires { ⌜ roomOf h ≤ length (now work) ⌝ }
     requires { ⌜ length (now cur) ≡ 2 * h ⌝ }
-    ensures { λ r. ⌜ Inserts h (now (work .entry)) rows (now (cur .entry)) r (now (cur .exit)) (now (work .exit)) ⌝ }
+    requires { ⌜ rows ≤ length (now taken) ⌝ }
+    ensures { λ r. ⌜ Inserts h (now (work .entry)) (now (taken .entry)) rows (now (cur .entry)) r (now (cur .exit)) (now (work .exit)) (now (taken .exit)) ⌝ }
 {
-    let found = settle(cur, work, h, rows);
+    let found = settle(cur, work, taken, h, rows);
     if let Highest::At(r) = found {
         store_slot(work, cur, h, r);
+        take_slot(taken, r);
     }
     found
 }
 
 // Reduces the pair in hand by the slots, all rows below `rows`.
-pub fn reduce(cur: &mut [u8], work: &[u8], h: usize, rows: usize)
+pub fn reduce(cur: &mut [u8], work: &[u8], taken: &[bool], h: usize, rows: usize)
     requires { ⌜ rows ≤ 8 * h ⌝ }
     requires { ⌜ roomOf h ≤ length (now work) ⌝ }
     requires { ⌜ length (now cur) ≡ 2 * h ⌝ }
-    ensures { λ _. ⌜ now (cur .exit) ≡ redBytes h (now (work .entry)) rows (now (cur .entry)) ⌝ }
+    requires { ⌜ rows ≤ length (now taken) ⌝ }
+    ensures { λ _. ⌜ now (cur .exit) ≡ redBytes h (now (work .entry)) (now (taken .entry)) rows (now (cur .entry)) ⌝ }
 {
     let mut left = rows;
     loop {
-        let found = settle(cur, work, h, left);
+        let found = settle(cur, work, taken, h, left);
         let Highest::At(r) = found else {
             return;
         };

@@ -2,7 +2,7 @@
 -- in hand, and putting them into the slots. The pair has 2·h bytes, for whatever half size h that holds all ranks.
 use Prim.Native.Nat.{ℕ, _*_, _≤_, _<_}
 use mathlib.Core.Path.{_≡_}
-use mathlib.Core.Bool.{false}
+use mathlib.Core.Bool.{Bool, false}
 use mathlib.Core.List.{List, []}
 use lib.ListN.{length, getD, take}
 use Rattle.chains.specs.Chain.{Chain, _⊕_, empty, Under}
@@ -32,9 +32,9 @@ pub record AddsBoundary (rows : List Simplex) (s : Simplex) (cur left : List ℕ
   pub under : Under top (simplexBoundary rows s)
 
 -- the slots hold the matrix of two lists, all its columns, of m rows
-pub record Loads (h : ℕ) (rows cols : List Simplex) (m : ℕ) (work : List ℕ) : Type 0 where
+pub record Loads (h : ℕ) (rows cols : List Simplex) (m : ℕ) (work : List ℕ) (taken : List Bool) : Type 0 where
   pub size : m ≡ length rows
-  pub all : SlotsIn h work (columns rows cols) (length cols) (length rows) (length cols)
+  pub all : SlotsIn h work taken (columns rows cols) (length cols) (length rows) (length cols)
 
 -- the chain of a list of m that is on in the marks
 abbrev pub markedChain : ℕ → Marks → Chain

@@ -38,8 +38,9 @@ no-rim rows marks = record {
 }
 
 -- the slots hold the matrix of the two lists, and the pair in hand holds the marked chain of the m rows, and no columns
-pub record Prepared (h : ℕ) (rows cols : List Simplex) (marks : Marks) (m : ℕ) (work cur : List ℕ) : Type 0 where
-  pub loads : Loads h rows cols m work
+pub record Prepared (h : ℕ) (rows cols : List Simplex) (marks : Marks) (m : ℕ) (work : List ℕ) (taken : List Bool)
+    (cur : List ℕ) : Type 0 where
+  pub loads : Loads h rows cols m work taken
   pub chain : chainR h cur ≡ asked rows marks
   pub no-columns : chainV h cur ≡ empty
 

@@ -2,11 +2,13 @@
 // put into the slots of the lent work memory, and the asked chain is reduced by them. The simplices of the
 // columns come as their sides, numbers whose digits are the ranks of their facets among the m rows (crate
 // `lookup`), so nothing is looked up here. `cur` is a lent pair of columns, 2·h bytes, and holds the answer
-// at the end.
+// at the end. Which slots hold a column stands in `taken`, all false at first: a slot that is not taken is
+// not read, whatever its bytes are, so the work memory is not touched before the first column.
 ghost use mathlib.Core.Path.{_≡_};
+ghost use mathlib.Core.Bool.{false};
 ghost use mathlib.Core.List.{List};
 ghost use Prim.Native.Nat.{_*_, _≤_, _<_};
-ghost use lib.ListN.{length};
+ghost use lib.ListN.{length, replicate};
 ghost use Rattle.columns.specs.Slot.{roomOf, chainR, chainV};
 ghost use Rattle.format.specs.Simplex.{Simplex};
 ghost use Rattle.lookup.specs.Sides.{Sides};
@@ -18,11 +20,11 @@ use columns::clear_front;
 use columns::flip;
 use columns::next_down;
 use lists::Marks;
+use lists::SimplexList;
 use slots::Filled;
 use slots::class_in;
 use slots::fill_in;
 use slots::insert_column;
-use slots::start;
 
 // Adds the boundary of the simplex of `size` vertices that has these sides to the chain of rows in hand.
 // Says from which row on the boundary holds none, so that no search begins higher.
@@ -44,10 +46,14 @@ pub fn add_boundary(cur: &mut [u8], sides: u64, size: usize) -> usize
     top
 }
 
-// Puts all columns into the slots, in rising rank.
+// No slot is taken before the first column.
+const NO_SLOTS: [bool; SimplexList::LIMIT] = [false; SimplexList::LIMIT];
+
+// Puts all columns into the slots, of which none is taken before, in rising rank.
 pub fn load(
     work: &mut [u8],
     cur: &mut [u8],
+    taken: &mut [bool],
     m: usize,
     sides: &[u64],
     n: usize,
@@ -55,11 +61,12 @@ pub fn load(
     h: usize,
 )
     requires { ⌜ MatrixIn h size m (now sides) n ⌝ }
+    requires { ⌜ m ≤ 512 ⌝ }
     requires { ⌜ roomOf h ≤ length (now work) ⌝ }
     requires { ⌜ length (now cur) ≡ 2 * h ⌝ }
-    ensures { λ _. ⌜ ((k : MatrixIn h size m (now (sides .entry)) n) → Loads h (k .rows) (k .high) m (now (work .exit))) ⌝ }
+    requires { ⌜ now taken ≡ replicate 512 false ⌝ }
+    ensures { λ _. ⌜ ((k : MatrixIn h size m (now (sides .entry)) n) → Loads h (k .rows) (k .high) m (now (work .exit)) (now (taken .exit))) ⌝ }
 {
-    start(work, h, m);
     let mut i = 0;
     while i < n {
         let rank = i;
@@ -67,7 +74,7 @@ pub fn load(
         clear_front(cur, 2 * h);
         let top = add_boundary(cur, sides[rank], size);
         flip(cur, 8 * h + rank);
-        insert_column(work, cur, h, top);
+        insert_column(work, cur, taken, h, top);
     }
 }
 
@@ -121,6 +128,7 @@ pub fn rim_closed(
 fn prepare(
     work: &mut [u8],
     cur: &mut [u8],
+    taken: &mut [bool],
     m: usize,
     sides: &[u64],
     n: usize,
@@ -132,9 +140,10 @@ fn prepare(
     requires { ⌜ m ≤ 512 ⌝ }
     requires { ⌜ roomOf h ≤ length (now work) ⌝ }
     requires { ⌜ length (now cur) ≡ 2 * h ⌝ }
-    ensures { λ _. ⌜ ((k : MatrixIn h size m (now (sides .entry)) n) → Prepared h (k .rows) (k .high) marks m (now (work .exit)) (now (cur .exit))) ⌝ }
+    requires { ⌜ now taken ≡ replicate 512 false ⌝ }
+    ensures { λ _. ⌜ ((k : MatrixIn h size m (now (sides .entry)) n) → Prepared h (k .rows) (k .high) marks m (now (work .exit)) (now (taken .exit)) (now (cur .exit))) ⌝ }
 {
-    load(work, cur, m, sides, n, size, h);
+    load(work, cur, taken, m, sides, n, size, h);
     mark(cur, marks, m);
 }
 
@@ -156,8 +165,9 @@ pub fn fill(
     requires { ⌜ length (now cur) ≡ 2 * h ⌝ }
     ensures { λ r. ⌜ ((k : MatrixIn h size m (now (sides .entry)) n) → FillTold (k .rows) (k .high) marks r (chainV h (now (cur .exit)))) ⌝ }
 {
-    prepare(work, cur, m, sides, n, size, marks, h);
-    fill_in(cur, work, h, m)
+    let mut taken = NO_SLOTS;
+    prepare(work, cur, &mut taken, m, sides, n, size, marks, h);
+    fill_in(cur, work, &taken, h, m)
 }
 
 // Finds the smallest chain in the class of the marked chain of rows: then it is the first half of `cur`.
@@ -177,6 +187,7 @@ pub fn class(
     requires { ⌜ length (now cur) ≡ 2 * h ⌝ }
     ensures { λ _. ⌜ ((k : MatrixIn h size m (now (sides .entry)) n) → ClassTold (k .rows) (k .high) marks (chainR h (now (cur .exit)))) ⌝ }
 {
-    prepare(work, cur, m, sides, n, size, marks, h);
-    class_in(cur, work, h, m);
+    let mut taken = NO_SLOTS;
+    prepare(work, cur, &mut taken, m, sides, n, size, marks, h);
+    class_in(cur, work, &taken, h, m);
 }

@@ -8,22 +8,23 @@ use Rattle.columns.proofs.reduce.Statement.{statement}
 use Rattle.columns.proofs.reduce.Tie as tie
 
 abbrev Inv-loop : tie.InvT-loop
-Inv-loop cur₀ work h rows left₀ cur left = Reducing h work rows cur₀ cur left
+Inv-loop cur₀ work taken h rows left₀ cur left = Reducing h work taken rows cur₀ cur left
 
 abbrev μ-loop : tie.MeasureT-loop
-μ-loop cur₀ work h rows left₀ cur left = left
+μ-loop cur₀ work taken h rows left₀ cur left = left
 
 loop-holds : tie.Need-loop-holds Inv-loop μ-loop
 loop-holds c =
-    let start = c .before .before in
-    reducing-start (start .args .h) (start .args .work .now) (start .args .rows) (start .args .cur .now)
+    let start = c .before .before .before in
+    reducing-start (start .args .h) (start .args .work .now) (start .args .taken .now) (start .args .rows) (start .args .cur .now)
 
 settle-requires : tie.Need-settle-requires Inv-loop μ-loop
 settle-requires c κs =
-    let start = c .before .before .before .before in
-    let l = start .pre .0 in
-    let w = c .before .loop .inv .within in
-    (omega arith, (start .pre .1 .0, c .before .loop .inv .long ∙ start .pre .1 .1))
+    let start = c .before .before .before .before .before in
+    let w = c .before .loop .inv .within in (
+      omega (arith, w, start .pre .0),
+      (start .pre .1 .0, (c .before .loop .inv .long ∙ start .pre .1 .1 .0, omega (arith, w, start .pre .1 .1 .1))),
+    )
 
 enum-known-found : tie.Need-enum-known-found Inv-loop μ-loop
 enum-known-found c = search needs

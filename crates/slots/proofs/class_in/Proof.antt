@@ -14,8 +14,8 @@ same-length c = search needs
 returns : tie.Need-returns
 returns c =
     let done = c .before .before in
-    let start = done .before .before .before .before in
-    classes-in (start .pre .0) (start .pre .1 .0) (start .pre .1 .1) (done .reduce .ensures)
+    let start = done .before .before .before .before .before in
+    classes-in (start .pre .0) (start .pre .1 .0) (start .pre .1 .1 .0) (done .reduce .ensures)
 
 pub class-in-spec : {M : Type 1} → statement M
 class-in-spec = tie.close (tie.spec reduce-requires same-length returns)

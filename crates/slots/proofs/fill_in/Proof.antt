@@ -20,8 +20,8 @@ same-length c = search needs
 returns : tie.Need-returns
 returns c =
     let done = c .before .before .before .before in
-    let start = done .before .before .before .before in
-    fills-in (start .pre .0) (start .pre .1 .0) (start .pre .1 .1) (done .settle .ensures) (c .enum-told .given .1)
+    let start = done .before .before .before .before .before in
+    fills-in (start .pre .0) (start .pre .1 .0) (start .pre .1 .1 .0) (done .settle .ensures) (c .enum-told .given .1)
 
 same-length-2 : tie.Need-same-length-2
 same-length-2 c = search needs
@@ -29,8 +29,8 @@ same-length-2 c = search needs
 returns-2 : tie.Need-returns-2
 returns-2 c =
     let done = c .before .before .before .before in
-    let start = done .before .before .before .before in
-    fills-in (start .pre .0) (start .pre .1 .0) (start .pre .1 .1) (done .settle .ensures) (c .enum-told2 .given .1)
+    let start = done .before .before .before .before .before in
+    fills-in (start .pre .0) (start .pre .1 .0) (start .pre .1 .1 .0) (done .settle .ensures) (c .enum-told2 .given .1)
 
 pub fill-in-spec : {M : Type 1} → statement M
 fill-in-spec =

@@ -14,11 +14,14 @@ same-length c = search needs
 same-length-2 : tie.Need-same-length-2
 same-length-2 c = search needs
 
+same-length-3 : tie.Need-same-length-3
+same-length-3 c = search needs
+
 returns : tie.Need-returns
 returns c = λ m le low held.
-    let done = c .before .before .before .before in
-    let start = done .before .before .before .before .before in
-    puts-in low (start .pre .1 .0) (start .pre .1 .1) le held (done .insert .ensures)
+    let done = c .before .before .before .before .before .before in
+    let start = done .before .before .before .before .before .before .before in
+    puts-in low (start .pre .1 .0) (start .pre .1 .1 .0) (start .pre .1 .1 .1) le held (done .insert .ensures)
 
 pub insert-column-spec : {M : Type 1} → statement M
-insert-column-spec = tie.close (tie.spec insert-requires same-length same-length-2 returns)
+insert-column-spec = tie.close (tie.spec insert-requires same-length same-length-2 same-length-3 returns)

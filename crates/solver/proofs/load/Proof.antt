@@ -1,8 +1,9 @@
--- `load` puts the columns in one by one, each from a cleared pair of columns.
+-- `load` puts the columns in one by one, each from a cleared pair of columns. No slot is taken before.
 -- Assumes nothing.
 use Prim.Native.Nat.{_+_, _-_, _*_, _^_, _≤_, _<_}
-use mathlib.Core.Path.{_≡_, refl, sym, _∙_, subst}
-use lib.ListN.{length}
+use mathlib.Core.Path.{_≡_, sym, ap, _∙_, subst}
+use mathlib.Core.Bool.{false}
+use lib.ListN.{length, length-replicate}
 use native.Mathlib.Nat.{le-trans}
 use native.Mathlib.Omega.{arith}
 use Rattle.columns.specs.Slot.{roomOf}
@@ -15,34 +16,34 @@ use Rattle.solver.proofs.load.Statement.{statement}
 use Rattle.solver.proofs.load.Tie as tie
 
 abbrev Inv-loop : tie.InvT-loop
-Inv-loop work₀ cur₀ m sides n size h i₀ work cur i =
-    (k : MatrixIn h size m sides n) → Loading h (k .rows) (k .high) i work₀ work cur
+Inv-loop work₀ cur₀ taken₀ m sides n size h i₀ work cur taken i =
+    (k : MatrixIn h size m sides n) → Loading h (k .rows) (k .high) i work₀ taken₀ work cur taken
 
 abbrev μ-loop : tie.MeasureT-loop
-μ-loop work₀ cur₀ m sides n size h i₀ work cur i = n - i
-
-start-requires : tie.Need-start-requires Inv-loop μ-loop
-start-requires c κs =
-    let known = c .before .before .before .before .pre in
-    (omega (arith, known .0 .row-count, known .0 .few-rows), known .1 .0)
+μ-loop work₀ cur₀ taken₀ m sides n size h i₀ work cur taken i = n - i
 
 loop-holds : tie.Need-loop-holds Inv-loop μ-loop
 loop-holds c = λ k.
-    let emptied = c .before .before in
-    let start = emptied .before .before .before .before .before in
-    loading-start (k .row-count) (emptied .start .ensures) refl (start .pre .1 .1)
+    let start = c .before .before .before .before in
+    loading-start (start .pre .1 .1 .1 .1) (start .pre .1 .1 .1 .0)
 
 -- what was known before the loop
 module _ (p : tie.At-loop Inv-loop μ-loop) where
-  abbrev emptied : tie.After-start Inv-loop μ-loop
-  emptied = p .before .before .before
-
   abbrev begin : tie.Start Inv-loop μ-loop
-  begin = emptied .before .before .before .before .before
+  begin = p .before .before .before .before .before
 
   -- what the invariant says of the lengths: it holds of the matrix at hand
   same-lengths : (length (p .loop .work) ≡ length (begin .args .work .now)) × (length (p .loop .cur) ≡ 2 * begin .args .h)
-  same-lengths = let now = p .loop .inv (begin .pre .0) in (now .long ∙ emptied .start .kept .0, now .whole)
+  same-lengths = let now = p .loop .inv (begin .pre .0) in (now .long, now .whole)
+
+  as-wide : length (p .loop .taken) ≡ length (begin .args .taken .now)
+  as-wide = p .loop .inv (begin .pre .0) .wide
+
+  -- every row has its place in the array of the slots that are taken
+  all-rows : begin .args .m ≤ length (p .loop .taken)
+  all-rows =
+      let long : length (begin .args .taken .now) ≡ 512 = ap length (begin .pre .1 .1 .1 .1) ∙ length-replicate 512 false in
+      omega (arith, begin .pre .1 .0, as-wide, long)
 
 -- the rank at hand is one of a column, and all ranks of columns are bits of the second half
 module _ (c : tie.In-loop Inv-loop μ-loop) where
@@ -55,7 +56,7 @@ module _ (c : tie.In-loop Inv-loop μ-loop) where
   bits-low : 8 * lent .args .h + 8 * lent .args .h < 2 ^ 64
   bits-low =
       let some : 0 < lent .args .h = omega (arith, in-half) in
-      omega (arith, lent .good .0 .0, halves-fit (lent .args .h) (length (lent .args .work .now)) some (lent .pre .1 .0))
+      omega (arith, lent .good .0 .0, halves-fit (lent .args .h) (length (lent .args .work .now)) some (lent .pre .1 .1 .0))
 
 add-i : tie.Need-add-i Inv-loop μ-loop
 add-i c = search needs
@@ -90,7 +91,7 @@ flip-requires c κs = search needs
 
 insert-column-requires : tie.Need-insert-column-requires Inv-loop μ-loop
 insert-column-requires c κs =
-    let flipped = c .before .before .before .before in
+    let flipped = c .before .before .before .before .before in
     let added = flipped .before .before .before .before in
     let cleared = added .before .before .before .before .before in
     let turn = cleared .before .before in
@@ -98,8 +99,11 @@ insert-column-requires c κs =
     let boundary = column-added (start .pre .0) (turn .loop-test .taken) (added .add-boundary .ensures) in (
       le-trans (boundary .within) (start .pre .0 .few-rows),
       (
-        subst (λ n. roomOf (start .args .h) ≤ n) (sym (same-lengths (turn .before) .0)) (start .pre .1 .0),
-        flipped .flip .kept .0 ∙ added .add-boundary .kept .0 ∙ cleared .clear-front .kept .0 ∙ same-lengths (turn .before) .1,
+        subst (λ n. roomOf (start .args .h) ≤ n) (sym (same-lengths (turn .before) .0)) (start .pre .1 .1 .0),
+        (
+          flipped .flip .kept .0 ∙ added .add-boundary .kept .0 ∙ cleared .clear-front .kept .0 ∙ same-lengths (turn .before) .1,
+          omega (arith, boundary .within, start .pre .0 .row-count, all-rows (turn .before)),
+        ),
       ),
     )
 
@@ -108,8 +112,8 @@ loop-less c = search needs
 
 loop-again : tie.Need-loop-again Inv-loop μ-loop
 loop-again c = λ k.
-    let put = c .before .before .before .before in
-    let flipped = put .before .before .before .before .before in
+    let put = c .before .before .before .before .before .before in
+    let flipped = put .before .before .before .before .before .before in
     let added = flipped .before .before .before .before in
     let cleared = added .before .before .before .before .before in
     let turn = cleared .before .before in
@@ -118,12 +122,16 @@ loop-again c = λ k.
     (cleared .clear-front .ensures ∙ front-all _ _ (same-lengths (turn .before) .1)) (column-added k lt (added .add-boundary .ensures))
     (added .add-boundary .kept .0) (flipped .flip .ensures) (omega (arith, lt, k .count))
     (put .insert-column .ensures) (put .insert-column .kept .0) (put .insert-column .kept .1 .0)
+    (put .insert-column .kept .1 .1 .0)
 
 same-length : tie.Need-same-length Inv-loop μ-loop
 same-length c = same-lengths (c .before) .0
 
 same-length-2 : tie.Need-same-length-2 Inv-loop μ-loop
-same-length-2 c = same-lengths (c .before) .1 ∙ sym (begin (c .before) .pre .1 .1)
+same-length-2 c = same-lengths (c .before) .1 ∙ sym (begin (c .before) .pre .1 .1 .1 .0)
+
+same-length-3 : tie.Need-same-length-3 Inv-loop μ-loop
+same-length-3 c = as-wide (c .before)
 
 returns : tie.Need-returns Inv-loop μ-loop
 returns c = λ k.
@@ -135,7 +143,6 @@ load-spec =
     (tie.spec
     Inv-loop
     μ-loop
-    start-requires
     loop-holds
     add-i
     mul-clear-front
@@ -151,4 +158,5 @@ load-spec =
     loop-again
     same-length
     same-length-2
+    same-length-3
     returns)

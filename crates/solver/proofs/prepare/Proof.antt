@@ -18,12 +18,16 @@ same-length c = search needs
 same-length-2 : tie.Need-same-length-2
 same-length-2 c = search needs
 
+same-length-3 : tie.Need-same-length-3
+same-length-3 c = search needs
+
 returns : tie.Need-returns
 returns c = λ k.
     let marked = c .before .before in
-    let loaded = marked .before .before .before .before .before .before in
-    let start = loaded .before .before .before .before .before .before in
-    prepared _ _ _ _ (k .few-rows) (loaded .load .kept .1 .0 ∙ start .pre .1 .1 .1) (loaded .load .ensures k) (marked .mark .ensures)
+    let loaded = marked .before .before .before .before .before .before .before .before in
+    let start = loaded .before .before .before .before .before .before .before .before in
+    prepared _ _ _ _ (k .few-rows) (loaded .load .kept .1 .0 ∙ start .pre .1 .1 .1 .0) (loaded .load .ensures k)
+    (marked .mark .ensures)
 
 pub prepare-spec : {M : Type 1} → statement M
-prepare-spec = tie.close (tie.spec load-requires mark-requires same-length same-length-2 returns)
+prepare-spec = tie.close (tie.spec load-requires mark-requires same-length same-length-2 same-length-3 returns)
