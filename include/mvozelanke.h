@@ -9,7 +9,7 @@
  * call must not overlap.  A null pointer is fine where the length is 0.  Neither
  * call keeps a pointer, allocates memory or changes a byte of the job.  A thread
  * that calls them wants 128 KB of stack free (measured on x86-64: mvz_answer takes
- * 76 KB, mvz_write 102 KB; docs/PERFORMANCE.md).
+ * 86 KB, mvz_write 112 KB; docs/PERFORMANCE.md).
  */
 #ifndef MVOZELANKE_H
 #define MVOZELANKE_H
