@@ -106,8 +106,8 @@ fn judge(
     requires { ⌜ NumberOf (take width (drop at (now p))) number ⌝ }
     ensures { λ r. ⌜ JudgedSo (now (keys .entry)) n (now («face_keys» .entry)) m (take width (drop at (now (p .entry)))) v width r ⌝ }
 {
-    let unsound = !sound_at(p, at, width, v);
     let repeated = entered(keys, first, next, n, number);
+    let unsound = !sound_at(p, at, width, v);
     if unsound {
         return Judged::Refused(Verdict::VERTEX);
     }

@@ -1,10 +1,8 @@
 -- `jobs::after_head` meets its contract: the lists are read, and then what is asked about.
 -- Assumes nothing.
-use Prim.Native.Nat.{ℕ}
-use mathlib.Core.Path.{refl, _∙_}
-use native.Mathlib.Omega.{arith}
-use lib.ListN.{length-replicate}
+use mathlib.Core.Path.{_∙_}
 use Rattle.heads.specs.Meaning.{headOf}
+use Rattle.lookup.specs.IndexLaws.{zeros-blank}
 use Rattle.jobs.proofs.Laws.{told-refused, told-same, lists-refused, lists-fine}
 use borrow.Author.Needs.{needs}
 use Rattle.jobs.proofs.after_head.Statement.{statement}
@@ -31,7 +29,7 @@ slice-aggregate-read-lists-2 c = search needs
 read-lists-requires : tie.Need-read-lists-requires
 read-lists-requires c κs =
     let room = c .before .before .before .before .before .before .before .before .before .before .before .before .before .pre .1 .1 in
-    (room, record { keys-room = room .edges; next-room = omega (arith, length-replicate {A = ℕ} 512 0); none = refl })
+    (room, zeros-blank (room .edges))
 
 enum-known-verdict : tie.Need-enum-known-verdict
 enum-known-verdict c = search needs

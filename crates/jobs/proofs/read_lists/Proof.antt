@@ -4,11 +4,12 @@ use Prim.Native.Nat.{ℕ}
 use mathlib.Core.Path.{_≡_, refl, sym, _∙_, ap}
 use mathlib.Core.List.{List, []}
 use native.Mathlib.Omega.{arith}
-use lib.ListN.{length, length-replicate}
+use lib.ListN.{length}
 use Rattle.format.specs.Numbers.{small}
 use Rattle.format.specs.Simplex.{Simplex}
 use Rattle.format.specs.Reading.{Listing, accepted, readList}
 use Rattle.keys.specs.Chained.{chained-none}
+use Rattle.lookup.specs.IndexLaws.{zeros-blank}
 use Rattle.lookup.specs.Numbered.{simplicesIn}
 use Rattle.stages.specs.Meaning.{listRead}
 use Rattle.stages.specs.declared.ListRead.{ListRead}
@@ -153,7 +154,7 @@ read-list-requires-2 c κs =
       (
         e .read-list .ensures .indexed .chained,
         (
-          record { keys-room = start e .pre .0 .triangles; next-room = omega (arith, length-replicate {A = ℕ} 512 0); none = refl },
+          zeros-blank (start e .pre .0 .triangles),
           (e .read-list .ensures .few, λ wide. start e .pre .0 .triangle-sides),
         ),
       ),
@@ -215,7 +216,7 @@ read-list-requires-3 c κs =
       (
         second-read told .read-list2 .ensures .indexed .chained,
         (
-          record { keys-room = start e .pre .0 .tetrahedra; next-room = omega (arith, length-replicate {A = ℕ} 512 0); none = refl },
+          zeros-blank (start e .pre .0 .tetrahedra),
           (second-read told .read-list2 .ensures .few, λ wide. omega (arith, start e .pre .0 .tetrahedron-sides, e .read-list .kept .1 .1 .1 .1 .1 .1 .1 .1 .1 .1 .1 .0)),
         ),
       ),

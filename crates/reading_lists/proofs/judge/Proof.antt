@@ -10,36 +10,36 @@ use borrow.Author.Needs.{needs}
 use Rattle.reading_lists.proofs.judge.Statement.{statement}
 use Rattle.reading_lists.proofs.judge.Tie as tie
 
-sound-at-requires : tie.Need-sound-at-requires
-sound-at-requires c κs = search needs
-
 entered-requires : tie.Need-entered-requires
 entered-requires c κs = search needs
 
+sound-at-requires : tie.Need-sound-at-requires
+sound-at-requires c κs = search needs
+
 -- what is known of the item
-abbrev start : tie.After-entered → tie.Start
+abbrev start : tie.After-sound-at → tie.Start
 start c = c .before .before .before .before .before .before .before .before .before
 
-wide : (c : tie.After-entered) → let a = start c .args in length (take (a .width) (drop (a .at) (now (a .p)))) ≡ a .width
+wide : (c : tie.After-sound-at) → let a = start c .args in length (take (a .width) (drop (a .at) (now (a .p)))) ≡ a .width
 wide c = let a = start c .args in length-part (now (a .p)) (a .at) (a .width) (start c .pre .1 .1 .0 .2)
 
 returns : tie.Need-returns
-returns c = judged-unsound (ap not (sym (c .before .before .sound-at .ensures)) ∙ c .if1 .taken)
+returns c = judged-unsound (ap not (sym (c .before .sound-at .ensures)) ∙ c .if1 .taken)
 
 returns-2 : tie.Need-returns-2
 returns-2 c =
     let passed = c .before in
     let tried = passed .before in
-    judged-twice (wide tried) (start tried .pre .1 .1 .1) (ap not (sym (tried .before .sound-at .ensures)) ∙ passed .if1 .left)
-    (tried .entered .ensures) (c .if2 .taken)
+    judged-twice (wide tried) (start tried .pre .1 .1 .1) (ap not (sym (tried .sound-at .ensures)) ∙ passed .if1 .left)
+    (tried .before .entered .ensures) (c .if2 .taken)
 
 returns-3 : tie.Need-returns-3
 returns-3 c =
     let new = c .before in
     let passed = new .before in
     let tried = passed .before in
-    judged-edge (wide tried) (start tried .pre .1 .1 .1) (ap not (sym (tried .before .sound-at .ensures)) ∙ passed .if1 .left)
-    (tried .entered .ensures) (new .if2 .left) (c .if3 .taken)
+    judged-edge (wide tried) (start tried .pre .1 .1 .1) (ap not (sym (tried .sound-at .ensures)) ∙ passed .if1 .left)
+    (tried .before .entered .ensures) (new .if2 .left) (c .if3 .taken)
 
 facet-ranks-requires : tie.Need-facet-ranks-requires
 facet-ranks-requires c κs = search needs
@@ -57,8 +57,8 @@ returns-4 c =
     let new = looked .before .before in
     let passed = new .before in
     let tried = passed .before in
-    judged-sound (wide tried) (start tried .pre .1 .1 .1) (ap not (sym (tried .before .sound-at .ensures)) ∙ passed .if1 .left)
-    (tried .entered .ensures) (new .if2 .left) (looked .before .if3 .left) (looked .facet-ranks .ensures) (found .found .given .1)
+    judged-sound (wide tried) (start tried .pre .1 .1 .1) (ap not (sym (tried .sound-at .ensures)) ∙ passed .if1 .left)
+    (tried .before .entered .ensures) (new .if2 .left) (looked .before .if3 .left) (looked .facet-ranks .ensures) (found .found .given .1)
 
 returns-5 : tie.Need-returns-5
 returns-5 c =
@@ -66,15 +66,15 @@ returns-5 c =
     let new = looked .before .before in
     let passed = new .before in
     let tried = passed .before in
-    judged-lacking (wide tried) (start tried .pre .1 .1 .1) (ap not (sym (tried .before .sound-at .ensures)) ∙ passed .if1 .left)
-    (tried .entered .ensures) (new .if2 .left) (looked .before .if3 .left) (looked .facet-ranks .ensures) (c .enum-told .given .1)
+    judged-lacking (wide tried) (start tried .pre .1 .1 .1) (ap not (sym (tried .sound-at .ensures)) ∙ passed .if1 .left)
+    (tried .before .entered .ensures) (new .if2 .left) (looked .before .if3 .left) (looked .facet-ranks .ensures) (c .enum-told .given .1)
 
 pub judge-spec : {M : Type 1} → statement M
 judge-spec =
     tie.close
     (tie.spec
-    sound-at-requires
     entered-requires
+    sound-at-requires
     returns
     returns-2
     returns-3
