@@ -113,16 +113,7 @@ copied-more {d} {at} {s} {n} {x} {j} a l = record {
 pub copied-all : {d : List ℕ} {at : ℕ} {s : List ℕ} {n : ℕ} {x : List ℕ} {j : ℕ} → Copied d at s n x j → n ≤ j → x ≡ paste d at s n
 copied-all {d} {at} {s} {n} {x} {j} a l = let all : j ≡ n = omega arith in a .copy ∙ ap (paste d at s) all
 
--- ---- the search downwards: at rank i, the answer is the answer below i
-
-pub skip-byte : (col : List ℕ) (i : ℕ) → 0 < i → getD col ((i - 1) / 8) 0 ≡ 0
-    → highestBelow (chainOf col) i ≡ highestBelow (chainOf col) ((i - 1) / 8 * 8)
-unfolding bitAt
-skip-byte col i l e =
-    highest-skip (chainOf col) ((i - 1) / 8 * 8) i (omega arith)
-    (λ j p q.
-    let same : j / 8 ≡ (i - 1) / 8 = omega arith in
-    ap (λ (x : ℕ). bit x (j % 8)) (ap (λ (k : ℕ). getD col k 0) same ∙ e) ∙ bit-zero (j % 8))
+-- ---- the search downwards: one rank below i
 
 pub found-bit : (col : List ℕ) (i : ℕ) → 0 < i → bitAt col (i - 1) ≡ true → highestBelow (chainOf col) i ≡ At (i - 1)
 found-bit col i l e =

@@ -5,6 +5,7 @@ pub mod ColumnLaws
 pub mod Slot
 pub mod SlotLaws
 pub mod PairLaws
+pub mod Word
 pub mod Search
 pub mod Reduce
 pub mod ReduceLaws

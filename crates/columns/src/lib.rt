@@ -8,6 +8,7 @@ ghost use mathlib.Core.Bool.{true};
 ghost use lib.ListN.{length, getD, set, take, replicate};
 ghost use Rattle.columns.specs.Column.{bitAt, chainOf, xorBytes, flipped, clearedFront};
 ghost use Rattle.columns.specs.Slot.{roomOf, slot, storeSlot};
+ghost use Rattle.columns.specs.Word.{WordAt, HighestBit};
 ghost use Rattle.columns.specs.Search.{highestBelow};
 ghost use Rattle.columns.specs.Reduce.{redBytes, Settles, Inserts};
 
@@ -73,21 +74,51 @@ pub enum Highest {
     Nothing,
 }
 
-// The highest rank below `from` that the column holds.
+// The eight bytes from `at` on as one number.
+fn word_at(col: &[u8], at: usize) -> u64
+    requires { ⌜ at + 8 ≤ length (now col) ⌝ }
+    ensures { λ r. ⌜ WordAt (now (col .entry)) at r ⌝ }
+{
+    let mut word: u64 = 0;
+    let mut left = 8;
+    while 0 < left {
+        left -= 1;
+        word = word * 256 + col[at + left] as u64;
+    }
+    word
+}
+
+// The highest bit of a word that is not zero. The compiler knows this loop and makes one instruction of it.
+fn highest_bit(word: u64) -> usize
+    ensures { λ r. ⌜ (0 < word → HighestBit word r) ⌝ }
+{
+    let mut n = 0;
+    let mut rest = word / 2;
+    while 0 < rest {
+        rest = rest / 2;
+        n += 1;
+    }
+    n
+}
+
+// The highest rank below `from` that the column holds. The rank just below is looked at first, since in a full column it is
+// the answer as often as not, and then the ranks below it in the same word all at once.
 pub fn next_down(col: &[u8], from: usize) -> Highest
     ensures { λ r. ⌜ r ≡ highestBelow (chainOf (now (col .entry))) from ⌝ }
 {
     let mut i = from;
     while i > 0 {
-        let at = (i - 1) / 8;
-        let byte = byte_at(col, at);
-        if byte == 0 {
-            i = at * 8;
-        } else {
-            i -= 1;
-            if (byte >> (i % 8)) % 2 == 1 {
-                return Highest::At(i);
+        i -= 1;
+        if test(col, i) {
+            return Highest::At(i);
+        }
+        let at = i / 64 * 8;
+        if at + 8 <= col.len() {
+            let below = word_at(col, at) % (1u64 << (i % 64));
+            if below != 0 {
+                return Highest::At(at * 8 + highest_bit(below));
             }
+            i = at * 8;
         }
     }
     Highest::Nothing

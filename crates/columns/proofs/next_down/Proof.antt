@@ -1,13 +1,13 @@
--- `next_down` finds the highest rank: no rank from i up is held, so the answer below i is the answer below `from`. A
--- zero byte holds no rank, so its eight ranks are passed in one turn.
+-- `next_down` finds the highest rank: no rank from i up is held, so the answer below i is the answer below `from`. The ranks
+-- of one word are passed, or the highest of them is found, in one turn.
 -- Assumes nothing.
-use Prim.Native.Nat.{_-_, _≤_}
-use mathlib.Core.Path.{_≡_, sym, ap, _∙_}
+use Prim.Native.Nat.{suc, _-_, _/_, _*_, _≤_}
+use mathlib.Core.Path.{_≡_, sym, ap, _∙_, subst}
 use native.Mathlib.Omega.{arith}
 use Rattle.columns.specs.Column.{chainOf}
 use Rattle.columns.specs.Search.{highestBelow}
-use Rattle.columns.proofs.Laws.{read-bit, skip-byte, found-bit, skip-bit}
-use borrow.Author.Tests.{eq-eqb, ne-eqb}
+use Rattle.columns.proofs.Laws.{found-bit, skip-bit}
+use Rattle.columns.proofs.Words.{mask-pos, cut-low, none-below, some-below}
 use borrow.Author.Needs.{needs}
 use Rattle.columns.proofs.next_down.Statement.{statement}
 use Rattle.columns.proofs.next_down.Tie as tie
@@ -21,65 +21,115 @@ abbrev μ-loop : tie.MeasureT-loop
 loop-holds : tie.Need-loop-holds Inv-loop μ-loop
 loop-holds c = search needs
 
-sub-at : tie.Need-sub-at Inv-loop μ-loop
-sub-at c = search needs
+sub-i : tie.Need-sub-i Inv-loop μ-loop
+sub-i c = search needs
 
-byte-at-requires : tie.Need-byte-at-requires Inv-loop μ-loop
-byte-at-requires c κs = search needs
+test-requires : tie.Need-test-requires Inv-loop μ-loop
+test-requires c κs = search needs
+
+returns : tie.Need-returns Inv-loop μ-loop
+returns c =
+    let looked = c .before in
+    let head = looked .before .before in
+    let col = head .before .before .args .col .now in
+    sym
+    (head .loop .inv .1
+    ∙ found-bit col (head .loop .i) (looked .before .loop-test .taken) (sym (looked .test .ensures) ∙ c .if1 .taken))
+
+mul-at : tie.Need-mul-at Inv-loop μ-loop
+mul-at c = omega (arith, c .before .before .before .loop .inv .0, c .before .before .before .before .before .fits .from)
+
+add-if2 : tie.Need-add-if2 Inv-loop μ-loop
+add-if2 c = omega (arith, c .before .before .before .loop .inv .0, c .before .before .before .before .before .fits .from)
+
+word-at-requires : tie.Need-word-at-requires Inv-loop μ-loop
+word-at-requires c κs = c .if2 .taken
+
+shl-below : tie.Need-shl-below Inv-loop μ-loop
+shl-below c = search needs
+
+rem-below : tie.Need-rem-below Inv-loop μ-loop
+rem-below c = mask-pos (c .before .before .before .before .before .loop .i - 1)
+
+mul-t15 : tie.Need-mul-t15 Inv-loop μ-loop
+mul-t15 c =
+    let head = c .before .before .before .before .before .before in
+    omega (arith, head .loop .inv .0, head .before .before .fits .from)
+
+highest-bit-requires : tie.Need-highest-bit-requires Inv-loop μ-loop
+highest-bit-requires c κs = search needs
+
+add-t17 : tie.Need-add-t17 Inv-loop μ-loop
+add-t17 c =
+    let read = c .before .before in
+    let head = read .before .before .before .before .before in
+    omega (
+      arith,
+      head .loop .inv .0,
+      head .before .before .fits .from,
+      cut-low (head .loop .i - 1) (read .word-at .result) (c .highest-bit .result) (c .highest-bit .ensures (omega (arith, c .before .if3 .taken))),
+    )
+
+returns-2 : tie.Need-returns-2 Inv-loop μ-loop
+returns-2 c =
+    let read = c .before .before in
+    let else = read .before .before in
+    let looked = else .before in
+    let head = looked .before .before in
+    let col = head .before .before .args .col .now in
+    let up : suc (head .loop .i - 1) ≡ head .loop .i = omega (arith, looked .before .loop-test .taken) in
+    sym
+    (head .loop .inv .1
+    ∙ ap (highestBelow (chainOf col)) (sym up)
+    ∙ some-below col (head .loop .i - 1) (read .word-at .result) (c .highest-bit .result)
+    (sym (looked .test .ensures) ∙ else .if1 .left)
+    (read .word-at .ensures)
+    (c .highest-bit .ensures (omega (arith, c .before .if3 .taken))))
 
 mul-i : tie.Need-mul-i Inv-loop μ-loop
-mul-i c = omega arith
+mul-i c =
+    let head = c .before .before .before .before .before .before in
+    omega (arith, head .loop .inv .0, head .before .before .fits .from)
 
 loop-less : tie.Need-loop-less Inv-loop μ-loop
-loop-less c = omega arith
+loop-less c = omega (arith, c .before .before .before .before .before .loop-test .taken)
 
 loop-again : tie.Need-loop-again Inv-loop μ-loop
 loop-again c =
     let read = c .before in
-    let test = read .before in
-    let head = test .before in
+    let else = read .before .before in
+    let looked = else .before in
+    let head = looked .before .before in
     let col = head .before .before .args .col .now in
-    let none = sym (read .byte-at .ensures) ∙ c .if1 .taken in
-    (omega arith, head .loop .inv .1 ∙ skip-byte col (head .loop .i) (test .loop-test .taken) none)
-
-sub-i : tie.Need-sub-i Inv-loop μ-loop
-sub-i c = search needs
-
-cast-if2 : tie.Need-cast-if2 Inv-loop μ-loop
-cast-if2 c = search needs
-
-shr-if2 : tie.Need-shr-if2 Inv-loop μ-loop
-shr-if2 c = search needs
-
-returns : tie.Need-returns Inv-loop μ-loop
-returns c =
-    let read = c .before .before in
-    let head = read .before .before in
-    let col = head .before .before .args .col .now in
-    sym
-    (head .loop .inv .1
-    ∙ found-bit col (head .loop .i) (read .before .loop-test .taken)
-    (sym (read-bit col (head .loop .i - 1) (read .byte-at .result) (read .byte-at .ensures)) ∙ eq-eqb _ 1 (c .if2 .taken)))
+    let up : suc (head .loop .i - 1) ≡ head .loop .i = omega (arith, looked .before .loop-test .taken) in (
+      omega (arith, head .loop .inv .0),
+      head .loop .inv .1
+          ∙ ap (highestBelow (chainOf col)) (sym up)
+          ∙ none-below col (head .loop .i - 1) (read .word-at .result)
+          (sym (looked .test .ensures) ∙ else .if1 .left)
+          (read .word-at .ensures)
+          (c .if3 .left),
+    )
 
 loop-less-2 : tie.Need-loop-less-2 Inv-loop μ-loop
-loop-less-2 c = omega arith
+loop-less-2 c = omega (arith, c .before .before .before .loop-test .taken)
 
 loop-again-2 : tie.Need-loop-again-2 Inv-loop μ-loop
 loop-again-2 c =
-    let read = c .before .before in
-    let head = read .before .before in
+    let else = c .before in
+    let looked = else .before in
+    let head = looked .before .before in
     let col = head .before .before .args .col .now in (
-      omega arith,
+      omega (arith, head .loop .inv .0),
       head .loop .inv .1
-          ∙ skip-bit col (head .loop .i) (read .before .loop-test .taken)
-          (sym (read-bit col (head .loop .i - 1) (read .byte-at .result) (read .byte-at .ensures)) ∙ ne-eqb _ 1 (c .if2 .left)),
+          ∙ skip-bit col (head .loop .i) (looked .before .loop-test .taken) (sym (looked .test .ensures) ∙ else .if1 .left),
     )
 
-returns-2 : tie.Need-returns-2 Inv-loop μ-loop
+returns-3 : tie.Need-returns-3 Inv-loop μ-loop
 unfolding highestBelow
-returns-2 c =
+returns-3 c =
     let head = c .before in
-    let none : head .loop .i ≡ 0 = omega arith in
+    let none : head .loop .i ≡ 0 = omega (arith, c .loop-test .left) in
     sym (head .loop .inv .1 ∙ ap (highestBelow (chainOf (head .before .before .args .col .now))) none)
 
 pub next-down-spec : {M : Type 1} → statement M
@@ -89,15 +139,21 @@ next-down-spec =
     Inv-loop
     μ-loop
     loop-holds
-    sub-at
-    byte-at-requires
+    sub-i
+    test-requires
+    returns
+    mul-at
+    add-if2
+    word-at-requires
+    shl-below
+    rem-below
+    mul-t15
+    highest-bit-requires
+    add-t17
+    returns-2
     mul-i
     loop-less
     loop-again
-    sub-i
-    cast-if2
-    shr-if2
-    returns
     loop-less-2
     loop-again-2
-    returns-2)
+    returns-3)
