@@ -6,11 +6,13 @@ use mathlib.Core.Bool.{Bool, true, false, cond}
 use mathlib.Core.List.{List, [], _∷_}
 use native.Mathlib.Omega.{arith}
 use native.Mathlib.Numerals.{add-one, sub-one}
-use lib.ListN.{length}
+use lib.ListN.{length, getD}
 use lib.Dec.{eqb}
 use Rattle.chains.specs.Chain.{Chain}
 use Rattle.format.specs.Numbers.{small, answerKind}
-use Rattle.format.specs.Simplex.{Simplex, Complex, simplices, lower, vertexList}
+use Rattle.format.specs.Simplex.{Simplex, Complex, soundSimplex, risingFrom, allBelow, simplices, lower, vertexList}
+use Rattle.format.specs.Listed.{and-true}
+use Rattle.format.specs.Lookup.{stands-listed}
 use Rattle.format.specs.Answer.{members, verticesOf, recordOf, chainRecord}
 use Rattle.format.specs.Sound.{SoundComplex}
 use Rattle.format.specs.Marks.{vertices-once}
@@ -62,6 +64,15 @@ proper-list X sound (suc zero) = sound-proper (sound .edges)
 proper-list X sound (suc (suc zero)) = sound-proper (sound .triangles)
 proper-list X sound (suc (suc (suc zero))) = sound-proper (sound .tetrahedra)
 proper-list X sound (suc (suc (suc (suc k)))) = proper-none (suc (suc (suc (suc (suc k)))))
+
+-- and their vertices rise
+pub rising-list : (X : Complex) → SoundComplex small X → (k i : ℕ) → i < length (simplices X k)
+    → risingFrom 0 (getD (simplices X k) i []) ≡ true
+unfolding soundSimplex
+rising-list X sound k i lt =
+    let s : Simplex = getD (simplices X k) i [] in
+    let at = stands-listed s (simplices X k) i (record { below = lt; here = refl }) in
+    and-true (risingFrom 0 s) (allBelow (X .v) s) (simplices-sound small X sound k s at .sound) .0
 
 ap₃ : {A B C D : Type 0} (f : A → B → C → D) {a a′ : A} {b b′ : B} {c c′ : C} → a ≡ a′ → b ≡ b′ → c ≡ c′ → f a b c ≡ f a′ b′ c′
 ap₃ f p q r = rw (p, q, r) refl
@@ -125,6 +136,8 @@ module _ {v : ℕ} {c : Counts} {eKeys tKeys sKeys tSides sSides : List ℕ} (he
         row-count = rows-are;
         count = columns-are;
         wide = λ i lt. proper-list X (held .sound) (dim + 1) .wide i (omega arith) ∙ omega arith;
+        some = omega arith;
+        rising = λ i lt. rising-list X (held .sound) (dim + 1) i (omega arith);
         sided =
             subst₂ (λ (k : ℕ) (a : List ℕ). Sided (simplices X dim) (simplices X k) a n) up
             (ap (λ (k : ℕ). ofDimension k eKeys tSides sSides) up ∙ sym s)

@@ -15,9 +15,9 @@ use Rattle.echelon.specs.Loops.{Put, insert-dropped, insert-kept, fill-found, f
 use Rattle.echelon.specs.Loops.{Classing, class-start, class-skip, class-vacant, class-add, class-done}
 use Rattle.columns.specs.Slot.{roomOf, chainR, chainV, slot, takenAt, storeSlot}
 use Rattle.columns.specs.SlotLaws.{slot-stored, slot-kept}
-use Rattle.columns.specs.Reduce.{redBytes, Settles, Inserts, storedAt, takenWith, Ends}
+use Rattle.columns.specs.Reduce.{redBytes, Settled, settled, Settles, Inserts, storedAt, takenWith, Ends}
 use Rattle.columns.specs.Reduce.{slotRows, slotColumns, takenOnly, keptRows, Pivots}
-use Rattle.columns.specs.ReduceLaws.{inserts-from, length-settled, settled-at}
+use Rattle.columns.specs.ReduceLaws.{stuck, settled-stuck, inserts-from, length-settled, settled-at}
 use Rattle.columns.specs.ReduceChains.{kept-vacant, settle-chains, red-chains}
 use Rattle.columns.specs.declared.Highest.{Highest}
 use Rattle.columns.specs.declared.Highest.the-variants.{At, Nothing}
@@ -121,6 +121,23 @@ module _ {h m : ℕ} {work : List ℕ} {taken : List Bool} {cur : List ℕ} (low
                     (put-in h work taken room r inside known left long (chainV h) m);
                 pivots = pivots-put h work taken room r inside known left long (p .1) (slots .pivots);
               }
+
+  -- a pair whose highest row has a slot that is not taken is stuck there from the start, so it may be stored as it is
+  pub puts-at-once : {top : ℕ} → top < length taken → top < m → Under (suc top) (chainR h cur) → chainR h cur top ≡ true
+      → takenAt taken top ≡ false → PutsIn h m work taken cur (storeSlot h work top cur) (set taken top true)
+  puts-at-once {top} listed le under held vacant =
+      let at-top : settled h work taken (suc top) cur ≡ record { at = At top; cur = cur } =
+      settled-stuck h work taken top cur (stuck h work taken top cur held vacant) in
+      puts-in listed le under (
+      record {
+        settles = record {
+          where-stuck = ap (λ (s : Settled). s .at) (sym at-top);
+          what-left = ap (λ (s : Settled). s .cur) (sym at-top);
+        };
+        stored = refl;
+        marked = refl;
+      }
+      )
 
   -- Through with all rows, what was collected is the smallest filling; stuck, there is none.
   pub fills-in : {answer a : Highest} {left : List ℕ} → Settles h work taken m cur answer left → answer ≡ a

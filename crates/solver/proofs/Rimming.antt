@@ -58,8 +58,8 @@ module _ (lower rows : List Simplex) (marks : Marks) (h : ℕ) where
         → Rimming lower rows marks h (i + 1) after
     rimming-skip lt out same = row-on false lt out (ap length same) (ap (chainR h) same ∙ sym (sum-empty (chainR h cur)))
 
-    pub rimming-add : {sum after : List ℕ} {top : ℕ} → i < length rows → getD (marks .on) i false ≡ true
-        → length lower ≤ 8 * h → AddsBoundary lower (getD rows i []) cur sum top → length sum ≡ length cur → after ≡ sum
+    pub rimming-add : {sum after : List ℕ} → i < length rows → getD (marks .on) i false ≡ true
+        → length lower ≤ 8 * h → AddsBoundary lower (getD rows i []) cur sum → length sum ≡ length cur → after ≡ sum
         → Rimming lower rows marks h (i + 1) after
     rimming-add lt on small added long put =
         row-on true lt on (ap length put ∙ long) (ap (chainR h) put ∙ added .adds h (a .whole) small)

@@ -5,18 +5,17 @@
 // at the end. Which slots hold a column stands in `taken`, all false at first: a slot that is not taken is
 // not read, whatever its bytes are, so the work memory is not touched before the first column.
 ghost use mathlib.Core.Path.{_≡_};
-ghost use mathlib.Core.Bool.{false};
+ghost use mathlib.Core.Bool.{true, false};
 ghost use mathlib.Core.List.{List};
 ghost use Prim.Native.Nat.{_*_, _≤_, _<_};
 ghost use lib.ListN.{length, replicate};
 ghost use Rattle.columns.specs.Slot.{roomOf, chainR, chainV};
-ghost use Rattle.format.specs.Simplex.{Simplex};
+ghost use Rattle.format.specs.Simplex.{Simplex, risingFrom};
 ghost use Rattle.lookup.specs.Sides.{Sides};
-ghost use Rattle.solver.specs.Columns.{MatrixIn, AddsBoundary, Loads, Marked};
+ghost use Rattle.solver.specs.Columns.{MatrixIn, AddsBoundary, HighestSide, WritesColumn, PutsNext, Loads, Marked};
 ghost use Rattle.solver.specs.Solved.{RimTold, Prepared, FillTold, ClassTold};
 use columns::Highest;
 use columns::clear;
-use columns::clear_front;
 use columns::flip;
 use columns::next_down;
 use lists::Marks;
@@ -27,11 +26,9 @@ use slots::fill_in;
 use slots::insert_column;
 
 // Adds the boundary of the simplex of `size` vertices that has these sides to the chain of rows in hand.
-// Says from which row on the boundary holds none, so that no search begins higher.
-pub fn add_boundary(cur: &mut [u8], sides: u64, size: usize) -> usize
-    ensures { λ top. ⌜ ((rows : List Simplex) (s : Simplex) → length s ≡ size → Sides rows s size sides → AddsBoundary rows s (now (cur .entry)) (now (cur .exit)) top) ⌝ }
+pub fn add_boundary(cur: &mut [u8], sides: u64, size: usize)
+    ensures { λ _. ⌜ ((rows : List Simplex) (s : Simplex) → length s ≡ size → Sides rows s size sides → AddsBoundary rows s (now (cur .entry)) (now (cur .exit))) ⌝ }
 {
-    let mut top = 0;
     let mut rest = sides;
     let mut left = size;
     while 0 < left {
@@ -39,11 +36,68 @@ pub fn add_boundary(cur: &mut [u8], sides: u64, size: usize) -> usize
         let i = (rest % 65536) as usize;
         rest = rest / 65536;
         flip(cur, i);
-        if top <= i {
-            top = i + 1;
+    }
+}
+
+// The highest of the sides of a simplex of `size` vertices. No two facets of a simplex are the same, so no
+// other facet takes that row out of the boundary again: it is the highest row that the boundary holds.
+fn highest_side(sides: u64, size: usize) -> usize
+    ensures { λ top. ⌜ ((rows : List Simplex) (s : Simplex) → length s ≡ size → 0 < size → risingFrom 0 s ≡ true → Sides rows s size sides → HighestSide rows s top) ⌝ }
+{
+    let mut top = 0;
+    let mut others = sides;
+    let mut left = size;
+    while 0 < left {
+        left -= 1;
+        let i = (others % 65536) as usize;
+        others = others / 65536;
+        if top < i {
+            top = i;
         }
     }
     top
+}
+
+// Writes the column of a simplex over a pair of columns: its boundary, and its rank alone, the bit `own` of the pair.
+fn write_column(col: &mut [u8], sides: u64, size: usize, own: usize)
+    ensures { λ _. ⌜ ((rows : List Simplex) (s : Simplex) → length s ≡ size → Sides rows s size sides → WritesColumn rows s own (now (col .entry)) (now (col .exit))) ⌝ }
+{
+    clear(col);
+    add_boundary(col, sides, size);
+    flip(col, own);
+}
+
+// Puts the next column into the slots. Where the slot of its highest row is not taken, which is so for most columns,
+// the column belongs there as it is: it is written there at once, and nothing is searched, reduced or copied.
+fn put_column(
+    work: &mut [u8],
+    cur: &mut [u8],
+    taken: &mut [bool],
+    m: usize,
+    sides: &[u64],
+    n: usize,
+    size: usize,
+    h: usize,
+    rank: usize,
+)
+    requires { ⌜ MatrixIn h size m (now sides) n ⌝ }
+    requires { ⌜ rank < n ⌝ }
+    requires { ⌜ m ≤ length (now taken) ⌝ }
+    requires { ⌜ roomOf h ≤ length (now work) ⌝ }
+    requires { ⌜ length (now cur) ≡ 2 * h ⌝ }
+    ensures { λ _. ⌜ ((k : MatrixIn h size m (now (sides .entry)) n) → PutsNext h (k .rows) (k .high) rank (now (work .entry)) (now (taken .entry)) (now (work .exit)) (now (taken .exit))) ⌝ }
+{
+    let top = highest_side(sides[rank], size);
+    let own = 8 * h + rank;
+    if taken[top] {
+        write_column(cur, sides[rank], size, own);
+        insert_column(work, cur, taken, h, top + 1);
+    } else {
+        let from = top * (2 * h);
+        let to = from + 2 * h;
+        write_column(&mut work[from..to], sides[rank], size, own);
+        taken[top] = true;
+    }
 }
 
 // No slot is taken before the first column.
@@ -71,10 +125,7 @@ pub fn load(
     while i < n {
         let rank = i;
         i += 1;
-        clear_front(cur, 2 * h);
-        let top = add_boundary(cur, sides[rank], size);
-        flip(cur, 8 * h + rank);
-        insert_column(work, cur, taken, h, top);
+        put_column(work, cur, taken, m, sides, n, size, h, rank);
     }
 }
 

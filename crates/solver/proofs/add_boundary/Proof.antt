@@ -6,18 +6,18 @@ use lib.ListN.{length}
 use Rattle.format.specs.Simplex.{Simplex}
 use Rattle.lookup.specs.Sides.{Sides}
 use Rattle.lookup.specs.SidesLaws.{sides-last}
-use Rattle.solver.proofs.Adding.{Adding, adding-start, adding-higher, adding-lower, adding-end}
+use Rattle.solver.proofs.Adding.{Adding, adding-start, adding-on, adding-end}
 use borrow.Author.Needs.{needs}
 use Rattle.solver.proofs.add_boundary.Statement.{statement}
 use Rattle.solver.proofs.add_boundary.Tie as tie
 
 abbrev Inv-loop : tie.InvT-loop
-Inv-loop cur₀ sides size top₀ rest₀ left₀ cur top rest left =
+Inv-loop cur₀ sides size rest₀ left₀ cur rest left =
     (length cur ≡ length cur₀)
-    × ((rows : List Simplex) (s : Simplex) → length s ≡ size → Sides rows s size sides → Adding rows s cur₀ cur left rest top)
+    × ((rows : List Simplex) (s : Simplex) → length s ≡ size → Sides rows s size sides → Adding rows s cur₀ cur left rest)
 
 abbrev μ-loop : tie.MeasureT-loop
-μ-loop cur₀ sides size top₀ rest₀ left₀ cur top rest left = left
+μ-loop cur₀ sides size rest₀ left₀ cur rest left = left
 
 loop-holds : tie.Need-loop-holds Inv-loop μ-loop
 loop-holds c = (refl, λ rows s sized sided. adding-start rows s _ _ _ sized sided)
@@ -28,37 +28,19 @@ sub-left c = search needs
 flip-requires : tie.Need-flip-requires Inv-loop μ-loop
 flip-requires c κs = search needs
 
-add-top : tie.Need-add-top Inv-loop μ-loop
-add-top c = search needs
-
 loop-less : tie.Need-loop-less Inv-loop μ-loop
 loop-less c = search needs
 
 loop-again : tie.Need-loop-again Inv-loop μ-loop
 loop-again c =
-    let flipped = c .before .before .before in
+    let flipped = c .before .before in
     let turn = flipped .before .before in
     let a = turn .before .loop .inv in (
       flipped .flip .kept .0 ∙ a .0,
       λ rows s sized sided.
           let before = a .1 rows s sized sided in
           let some = turn .loop-test .taken in
-          adding-higher before some (sides-last (before .sided) some) (flipped .flip .ensures) (c .if1 .taken),
-    )
-
-loop-less-2 : tie.Need-loop-less-2 Inv-loop μ-loop
-loop-less-2 c = search needs
-
-loop-again-2 : tie.Need-loop-again-2 Inv-loop μ-loop
-loop-again-2 c =
-    let flipped = c .before .before .before in
-    let turn = flipped .before .before in
-    let a = turn .before .loop .inv in (
-      flipped .flip .kept .0 ∙ a .0,
-      λ rows s sized sided.
-          let before = a .1 rows s sized sided in
-          let some = turn .loop-test .taken in
-          adding-lower before some (sides-last (before .sided) some) (flipped .flip .ensures) (c .if1 .left),
+          adding-on before some (sides-last (before .sided) some) (flipped .flip .ensures),
     )
 
 same-length : tie.Need-same-length Inv-loop μ-loop
@@ -76,10 +58,7 @@ add-boundary-spec =
     loop-holds
     sub-left
     flip-requires
-    add-top
     loop-less
     loop-again
-    loop-less-2
-    loop-again-2
     same-length
     returns)

@@ -6,7 +6,7 @@ use mathlib.Core.Logic.{⊎-elim}
 use native.Mathlib.Omega.{arith}
 use lib.ListN.{length}
 use Rattle.solver.specs.Columns.{MatrixIn}
-use Rattle.solver.proofs.Adding.{column-added}
+use Rattle.solver.proofs.Adding.{column-sides}
 use Rattle.solver.proofs.Rimming.{Rimming, rimming-start, rimming-skip, rimming-add, rim-empty, rim-open}
 use borrow.Author.Needs.{needs}
 use Rattle.solver.proofs.rim_closed.Statement.{statement}
@@ -66,7 +66,8 @@ loop-again c = λ k.
     let a = turn .before .loop .inv k in
     let lt : turn .before .loop .i < length (k .high) = omega (arith, turn .loop-test .taken, k .count) in
     ⊎-elim
-    (λ w. rimming-add _ _ _ _ a lt (w .0 .taken) (k .few-rows) (column-added k (turn .loop-test .taken) (w .3 .ensures))
+    (λ w. rimming-add _ _ _ _ a lt (w .0 .taken) (k .few-rows)
+    (w .3 .ensures _ _ (k .wide _ (turn .loop-test .taken)) (column-sides k (turn .loop-test .taken)))
     (w .3 .kept .0) (w .6))
     (λ w. rimming-skip _ _ _ _ a lt (w .0 .left) (w .1))
     (c .if1 .came)
