@@ -175,7 +175,7 @@ void shape_hostile(struct shape *shape, unsigned triangles, bool falling)
 
 /* ---- colliding ---- */
 
-enum { BUCKETS = 1019 }; /* as crate keys has it: what matters is only that they are hit */
+enum { BUCKETS = 1021 }; /* as crate keys has it: what matters is only that they are hit */
 
 static unsigned bucket(unsigned a, unsigned b, unsigned c)
 {

@@ -17,7 +17,7 @@ lastBelow p l zero = zero
 lastBelow p l (suc n) = cond (p (getD l n 0)) (suc n) (lastBelow p l n)
 
 abbrev pub buckets : ℕ
-buckets = 1019
+buckets = 1021
 
 abbrev pub inBucket : ℕ → ℕ → Bool
 inBucket b k = eqb (k % buckets) b

@@ -5,9 +5,9 @@ ghost use lib.Dec.{eqb};
 ghost use lib.ListN.{length};
 ghost use Rattle.keys.specs.Chained.{Chained, Linked, lastBelow};
 
-// How many buckets the keys are spread over: a prime, about twice as many as a list has simplices. With it few edges and
-// triangles of a mesh share a bucket.
-pub const BUCKETS: usize = 1019;
+// How many buckets the keys are spread over: the largest prime below twice a list's limit. Of a mesh, whose numbers go up in
+// regular steps, few edges and triangles share one of a prime number of buckets.
+pub const BUCKETS: usize = 1021;
 
 // One more than the place of a key among the first n, 0 where it is not there.
 pub fn find(keys: &[u64], first: &[u16], next: &[u16], n: usize, key: u64) -> usize
