@@ -8,32 +8,32 @@ use lib.ListN.{length}
 use Rattle.format.specs.Numbers.{small}
 use Rattle.format.specs.Simplex.{Simplex}
 use Rattle.format.specs.Lookup.{stands-listed}
-use Rattle.format.specs.Matrix.{Closed}
 use Rattle.format.specs.Sound.{SoundComplex}
 use Rattle.lists.specs.Meaning.{simplicesOf}
 use Rattle.lookup.specs.Indexed.{Proper, Keyed}
 use Rattle.lookup.specs.IndexLaws.{sound-proper}
 use Rattle.lookup.specs.Numbered.{simplicesIn}
 use Rattle.lookup.specs.NumberedLaws.{keyed-in}
-use Rattle.lookup.specs.Sides.{Sided}
+use Rattle.lookup.specs.Sides.{Sided, SidesTold}
+use Rattle.lookup.specs.SidesLaws.{sides-closed}
 use Rattle.complexes.specs.Meaning.{complexOf}
 use Rattle.complexes.specs.declared.Complex.{Complex}
 use Rattle.lent_lists.specs.Held.{complexIn, Room, Held, HoldsNow}
 use Rattle.lent_lists.specs.declared.Counts.{Counts}
 
 -- what finding the sides of a list comes to
-abbrev pub SidesFind : (width : ℕ) → List ℕ → ℕ → List ℕ → ℕ → List ℕ → Type 0
-SidesFind width faceKeys m keys n sides =
+abbrev pub SidesFind : (width : ℕ) → List ℕ → ℕ → List ℕ → ℕ → List ℕ → ℕ → Type 0
+SidesFind width faceKeys m keys n sides found =
     (faces l : List Simplex) → Proper width faces → Keyed faces faceKeys m → Proper (suc width) l → Keyed l keys n
-    → Closed faces l → Sided faces l sides n
+    → SidesTold faces l sides n found
 
-module _ (Y : Complex) {eKeys tKeys sKeys tSides sSides : List ℕ} {e t s : ℕ}
+module _ (Y : Complex) {eKeys tKeys sKeys tSides sSides : List ℕ} {e t s tFound sFound : ℕ}
     (room : Room eKeys tKeys sKeys tSides sSides)
     (edges : Keyed (simplicesOf (Y .edges)) eKeys e)
     (triangles : Keyed (simplicesOf (Y .triangles)) tKeys t)
     (tetrahedra : Keyed (simplicesOf (Y .tetrahedra)) sKeys s)
-    (triangle-sides : SidesFind 2 eKeys e tKeys t tSides)
-    (tetrahedron-sides : SidesFind 3 tKeys t sKeys s sSides) where
+    (triangle-sides : SidesFind 2 eKeys e tKeys t tSides tFound)
+    (tetrahedron-sides : SidesFind 3 tKeys t sKeys s sSides sFound) where
   abbrev counts : Counts
   counts = record { edges = e; triangles = t; tetrahedra = s }
 
@@ -61,12 +61,12 @@ module _ (Y : Complex) {eKeys tKeys sKeys tSides sSides : List ℕ} {e t s : ℕ
       tetrahedra = subst (λ (l : List Simplex). Keyed l sKeys s) (sym tetrahedra-in) tetrahedra;
       triangle-sides =
           subst₂ (λ (f l : List Simplex). Sided f l tSides t) (sym edges-in) (sym triangles-in)
-          (triangle-sides _ _ (sound-proper (sound .edges)) edges (sound-proper (sound .triangles)) triangles
+          (sides-closed (triangle-sides _ _ (sound-proper (sound .edges)) edges (sound-proper (sound .triangles)) triangles) (triangles .count)
           (λ i lt. sound .triangles .closed _ (stands-listed _ (simplicesOf (Y .triangles)) i (record { below = lt; here = refl }))));
       tetrahedron-sides =
           subst₂ (λ (f l : List Simplex). Sided f l sSides s) (sym triangles-in) (sym tetrahedra-in)
-          (tetrahedron-sides _ _ (sound-proper (sound .triangles)) triangles (sound-proper (sound .tetrahedra)) tetrahedra
-          (λ i lt. sound .tetrahedra .closed _ (stands-listed _ (simplicesOf (Y .tetrahedra)) i (record { below = lt; here = refl }))));
+          (sides-closed (tetrahedron-sides _ _ (sound-proper (sound .triangles)) triangles (sound-proper (sound .tetrahedra)) tetrahedra)
+          (tetrahedra .count) (λ i lt. sound .tetrahedra .closed _ (stands-listed _ (simplicesOf (Y .tetrahedra)) i (record { below = lt; here = refl }))));
     }
 
   pub holding : HoldsNow (complexOf Y) counts eKeys tKeys sKeys tSides sSides

@@ -73,6 +73,7 @@ pub fn complex_of(
 }
 
 // Puts a complex into the arrays: the numbers of its edges (e), triangles (t) and tetrahedra (s), and the sides of the latter.
+// How many sides are found is not looked at: no simplex of a sound complex lacks a facet.
 fn hold(
     complex: Complex,
     e_keys: &mut [u64],

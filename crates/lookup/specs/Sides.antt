@@ -1,6 +1,6 @@
 -- A simplex by its facets: their ranks are the digits of one number, its sides, in dictionary order, so that the facet
 -- without the last vertex is the lowest digit. An edge's own number is its sides, since vertices rank by number.
-use Prim.Native.Nat.{ℕ, suc, _/_, _%_, _<_}
+use Prim.Native.Nat.{ℕ, suc, _/_, _%_, _≤_, _<_}
 use mathlib.Core.Path.{_≡_}
 use mathlib.Core.Bool.{true, false}
 use mathlib.Core.List.{List, []}
@@ -24,3 +24,11 @@ pub record Sided (faces l : List Simplex) (sides : List ℕ) (n : ℕ) : Type 0 
 pub record FacetsTold (faces : List Simplex) (s : Simplex) (r : Facets) : Type 0 where
   pub listed : {k : ℕ} → r ≡ Ranked k → (allListed (facets s) faces ≡ true) × Sides faces s (length s) k
   pub lacking : r ≡ Lacking → allListed (facets s) faces ≡ false
+
+-- what looking up the facets of a list's n simplices comes to: the first r have all of theirs listed and their sides found,
+-- and the next, if there is one, lacks a facet
+pub record SidesTold (faces l : List Simplex) (sides : List ℕ) (n r : ℕ) : Type 0 where
+  pub within : r ≤ n
+  pub listed : (i : ℕ) → i < r → allListed (facets (getD l i [])) faces ≡ true
+  pub sided : Sided faces l sides r
+  pub lacking : r < n → allListed (facets (getD l r [])) faces ≡ false

@@ -5,9 +5,9 @@ use native.Mathlib.Numerals.{add-one}
 use native.Mathlib.Decide.{ℕ-discrete}
 use mathlib.Core.Path.{_≡_, refl, sym, ap, _∙_, subst}
 use mathlib.Core.Bool.{true, false}
-use mathlib.Core.List.{List, [], _∷_, _++_}
-use lib.ListN.{length, getD, set, length-set, List·getD-append}
-use lib.Seq.{getD-set-same, getD-set-other, getD-append-seam}
+use mathlib.Core.List.{List, []}
+use lib.ListN.{length, getD, set, length-set}
+use lib.Seq.{getD-set-same, getD-set-other}
 use lib.Dec.{eqb}
 use Rattle.format.specs.Simplex.{Simplex, Rank, ranked, unlisted, rank, facets, allListed}
 use Rattle.format.specs.Listed.{true-not-false}
@@ -19,7 +19,7 @@ use Rattle.keys.specs.Chained.{lastBelow, last-within}
 use Rattle.keys.specs.Number.{digit}
 use Rattle.lookup.specs.Indexed.{Proper, NumberOf, Keyed}
 use Rattle.lookup.specs.IndexLaws.{number-found, number-missing}
-use Rattle.lookup.specs.Sides.{Sides, none, more, Sided, FacetsTold}
+use Rattle.lookup.specs.Sides.{Sides, none, more, Sided, FacetsTold, SidesTold}
 use Rattle.lookup.specs.declared.Facets.{Facets}
 use Rattle.lookup.specs.declared.Facets.the-variants.{Ranked, Lacking}
 
@@ -154,10 +154,10 @@ module _ {keys : List ℕ} {n number width skip k : ℕ} (a : Siding keys n numb
         }
 
 -- SIDES OF A LIST: of no simplex, and of one simplex more.
-pub sided-none : {faces l : List Simplex} {sides : List ℕ} → Sided faces l sides 0
+sided-none : {faces l : List Simplex} {sides : List ℕ} → Sided faces l sides 0
 sided-none = record { own = λ i lt. absurd (omega arith) }
 
-pub sided-more : {faces l : List Simplex} {sides : List ℕ} {n k : ℕ} → Sided faces l sides n → n < length sides
+sided-more : {faces l : List Simplex} {sides : List ℕ} {n k : ℕ} → Sided faces l sides n → n < length sides
     → Sides faces (getD l n []) (length (getD l n [])) k → Sided faces l (set sides n k) (suc n)
 sided-more {faces} {l} {sides} {n} {k} a room new = record { own = own }
   where
@@ -170,62 +170,68 @@ sided-more {faces} {l} {sides} {n} {k} a room new = record { own = own }
           subst (Sides faces (getD l i []) (length (getD l i []))) (sym (getD-set-other sides n i k 0 other)) (a .own i (omega arith))
     ]
 
--- and of a list that grows by one simplex
-pub sided-longer : {faces l : List Simplex} (s : Simplex) {sides : List ℕ} {n k : ℕ} → Sided faces l sides n → n ≡ length l
-    → n < length sides → Sides faces s (length s) k → Sided faces (l ++ (s ∷ [])) (set sides n k) (suc n)
-sided-longer {faces} {l} s {sides} {n} {k} a all room new =
-    sided-more {l = l ++ (s ∷ [])} {sides = sides} (record { own = old }) room (subst (λ (t : Simplex). Sides faces t (length t) k) (sym seam) new)
-  where
-    seam : getD (l ++ (s ∷ [])) n [] ≡ s
-    seam = ap (λ (j : ℕ). getD (l ++ (s ∷ [])) j []) all ∙ getD-append-seam l s [] []
+-- what is known of the first n simplices, and of the next
+listed-more : (faces l : List Simplex) {n : ℕ} → ((i : ℕ) → i < n → allListed (facets (getD l i [])) faces ≡ true)
+    → allListed (facets (getD l n [])) faces ≡ true → (i : ℕ) → i < suc n → allListed (facets (getD l i [])) faces ≡ true
+listed-more faces l {n} old new i lt = elim (ℕ-discrete i n) [
+  | yes same ↦ ap (λ (j : ℕ). allListed (facets (getD l j [])) faces) same ∙ new
+  | no other ↦ old i (omega arith)
+]
 
-    old : (i : ℕ) → i < n → Sides faces (getD (l ++ (s ∷ [])) i []) (length (getD (l ++ (s ∷ [])) i [])) (getD sides i 0)
-    old i lt =
-        subst (λ (t : Simplex). Sides faces t (length t) (getD sides i 0)) (sym (List·getD-append l (s ∷ []) [] i (omega arith)))
-        (a .own i lt)
-
--- THE LOOP over a list: the sides of its first i simplices are found.
+-- THE LOOP over a list: the facets of its first i simplices are listed, and their sides found.
 pub record SidesFound (faceKeys : List ℕ) (m : ℕ) (keys : List ℕ) (n width : ℕ) (sides₀ sides : List ℕ) (i : ℕ) : Type 0 where
   pub within : i ≤ n
   pub long : length sides ≡ length sides₀
-  pub sided : (faces l : List Simplex) → Proper (width - 1) faces → Keyed faces faceKeys m → Proper width l → Keyed l keys n
-      → Closed faces l → Sided faces l sides i
+  pub found : (faces l : List Simplex) → Proper (width - 1) faces → Keyed faces faceKeys m → Proper width l → Keyed l keys n
+      → ((j : ℕ) → j < i → allListed (facets (getD l j [])) faces ≡ true) × Sided faces l sides i
 
 pub finding-start : (faceKeys : List ℕ) (m : ℕ) (keys : List ℕ) (n width : ℕ) (sides : List ℕ)
     → SidesFound faceKeys m keys n width sides sides 0
 finding-start faceKeys m keys n width sides =
-    record { within = omega arith; long = refl; sided = λ faces l p k wide own closed. sided-none }
+    record { within = omega arith; long = refl; found = λ faces l p k wide own. (λ j lt. absurd (omega arith), sided-none) }
 
 module _ {faceKeys : List ℕ} {m : ℕ} {keys : List ℕ} {n width : ℕ} {sides₀ sides : List ℕ} {i : ℕ}
-    (a : SidesFound faceKeys m keys n width sides₀ sides i) (below : i < n) {r : Facets}
-    (looked : (s : Simplex) → NumberOf s (getD keys i 0) → length s ≡ width → (faces : List Simplex) → Proper (width - 1) faces
-    → Keyed faces faceKeys m → FacetsTold faces s r) where
-  -- what the look-up of the next simplex says of it in a list
-  told : (faces l : List Simplex) → Proper (width - 1) faces → Keyed faces faceKeys m → Proper width l → Keyed l keys n
-      → FacetsTold faces (getD l i []) r
-  told faces l p k wide own =
-      looked (getD l i []) (own .own i below) (wide .wide i (omega (arith, own .count))) faces p k
+    (a : SidesFound faceKeys m keys n width sides₀ sides i) where
+  module _ (below : i < n) {r : Facets}
+      (looked : (s : Simplex) → NumberOf s (getD keys i 0) → length s ≡ width → (faces : List Simplex) → Proper (width - 1) faces
+      → Keyed faces faceKeys m → FacetsTold faces s r) where
+    -- what the look-up of the next simplex says of it in a list
+    told : (faces l : List Simplex) → Proper (width - 1) faces → Keyed faces faceKeys m → Proper width l → Keyed l keys n
+        → FacetsTold faces (getD l i []) r
+    told faces l p k wide own =
+        looked (getD l i []) (own .own i below) (wide .wide i (omega (arith, own .count))) faces p k
 
-  pub finding-on : {k : ℕ} → r ≡ Ranked k → n ≤ length sides₀ → SidesFound faceKeys m keys n width sides₀ (set sides i k) (i + 1)
-  finding-on {k} e room =
-      subst (SidesFound faceKeys m keys n width sides₀ (set sides i k)) (sym (add-one i)) (
-      record {
-        within = below;
-        long = length-set sides i k ∙ a .long;
-        sided = λ faces l p q wide own closed.
-            sided-more (a .sided faces l p q wide own closed) (omega (arith, a .long)) (told faces l p q wide own .listed e .1);
-      }
-      )
+    pub finding-on : {k : ℕ} → r ≡ Ranked k → n ≤ length sides₀ → SidesFound faceKeys m keys n width sides₀ (set sides i k) (i + 1)
+    finding-on {k} e room =
+        subst (SidesFound faceKeys m keys n width sides₀ (set sides i k)) (sym (add-one i)) (
+        record {
+          within = below;
+          long = length-set sides i k ∙ a .long;
+          found = λ faces l p q wide own.
+              let known = a .found faces l p q wide own in
+              let new = told faces l p q wide own .listed e in
+              (listed-more faces l (known .0) (new .0), sided-more (known .1) (omega (arith, a .long)) (new .1));
+        }
+        )
 
-  -- no simplex of a closed list lacks a facet
-  pub finding-none : r ≡ Lacking → (faces l : List Simplex) → Proper (width - 1) faces → Keyed faces faceKeys m → Proper width l
-      → Keyed l keys n → Closed faces l → Sided faces l sides n
-  finding-none e faces l p k wide own closed =
-      true-not-false _ (closed i (omega (arith, own .count))) (told faces l p k wide own .lacking e)
+    -- the next simplex lacks a facet
+    pub finding-lacks : r ≡ Lacking → (faces l : List Simplex) → Proper (width - 1) faces → Keyed faces faceKeys m → Proper width l
+        → Keyed l keys n → SidesTold faces l sides n i
+    finding-lacks e faces l p k wide own =
+        let known = a .found faces l p k wide own in
+        record { within = a .within; listed = known .0; sided = known .1; lacking = λ lt. told faces l p k wide own .lacking e }
 
-pub finding-end : {faceKeys : List ℕ} {m : ℕ} {keys : List ℕ} {n width : ℕ} {sides₀ sides : List ℕ} {i : ℕ}
-    → SidesFound faceKeys m keys n width sides₀ sides i → n ≤ i → (faces l : List Simplex) → Proper (width - 1) faces
-    → Keyed faces faceKeys m → Proper width l → Keyed l keys n → Closed faces l → Sided faces l sides n
-finding-end {n = n} {sides = sides} {i = i} a end faces l p k wide own closed =
-    let all : i ≡ n = omega (arith, a .within) in
-    subst (Sided faces l sides) all (a .sided faces l p k wide own closed)
+  pub finding-end : n ≤ i → (faces l : List Simplex) → Proper (width - 1) faces → Keyed faces faceKeys m → Proper width l
+      → Keyed l keys n → SidesTold faces l sides n i
+  finding-end end faces l p k wide own =
+      let known = a .found faces l p k wide own in
+      record { within = a .within; listed = known .0; sided = known .1; lacking = λ lt. absurd (omega arith) }
+
+-- no simplex of a closed list lacks a facet, so that all sides are found
+pub sides-closed : {faces l : List Simplex} {sides : List ℕ} {n r : ℕ} → SidesTold faces l sides n r → n ≡ length l → Closed faces l
+    → Sided faces l sides n
+sides-closed {faces} {l} {sides} {n} {r} told all closed = elim (ℕ-discrete r n) [
+  | yes end ↦ subst (Sided faces l sides) end (told .sided)
+  | no other ↦
+      true-not-false _ (closed r (omega (arith, told .within))) (told .lacking (omega (arith, told .within)))
+]

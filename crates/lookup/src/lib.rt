@@ -8,12 +8,11 @@ ghost use Rattle.format.specs.Simplex.{rank};
 ghost use Rattle.format.specs.Simplex as format;
 ghost use Rattle.lists.specs.Meaning.{verticesOf, simplicesOf, rankOf};
 ghost use Rattle.format.specs.Reading.{without};
-ghost use Rattle.format.specs.Matrix.{Closed};
 ghost use Rattle.keys.specs.Chained.{Chained};
 ghost use Rattle.keys.specs.Number.{digitsOf};
 ghost use Rattle.lookup.specs.Indexed.{NumberOf, Keyed, Proper, Blank, Entered, Indexed};
 ghost use Rattle.lookup.specs.Numbered.{simplicesIn};
-ghost use Rattle.lookup.specs.Sides.{FacetsTold, Sided};
+ghost use Rattle.lookup.specs.Sides.{FacetsTold, SidesTold};
 use lists::Found;
 use lists::Simplex;
 use lists::SimplexList;
@@ -159,8 +158,8 @@ pub fn facet_ranks(
     Facets::Ranked(ranks)
 }
 
-// The sides of the n simplices of `width` vertices whose numbers the keys are, over the m faces entered. Where one lacks a
-// facet, there are no sides to find.
+// The sides of the n simplices of `width` vertices whose numbers the keys are, over the m faces entered, from the first on up
+// to one that lacks a facet. How many have their sides now: the rank of that one, or n where none lacks any.
 pub fn find_sides(
     face_keys: &[u64],
     face_first: &[u16],
@@ -170,18 +169,19 @@ pub fn find_sides(
     n: usize,
     width: usize,
     sides: &mut [u64],
-)
+) -> usize
     requires { ⌜ Chained (now «face_keys») (now «face_first») (now «face_next») m ⌝ }
     requires { ⌜ (width ≤ 4) × (m ≤ 65536) × (n ≤ length (now keys)) × (n ≤ length (now sides)) ⌝ }
-    ensures { λ _. ⌜ ((faces l : List format.Simplex) → Proper (width - 1) faces → Keyed faces (now («face_keys» .entry)) m → Proper width l → Keyed l (now (keys .entry)) n → Closed faces l → Sided faces l (now (sides .exit)) n) ⌝ }
+    ensures { λ r. ⌜ ((faces l : List format.Simplex) → Proper (width - 1) faces → Keyed faces (now («face_keys» .entry)) m → Proper width l → Keyed l (now (keys .entry)) n → SidesTold faces l (now (sides .exit)) n r) ⌝ }
 {
     let mut rank = 0;
     while rank < n {
         let found = facet_ranks(face_keys, face_first, face_next, m, keys[rank], width);
         let Facets::Ranked(ranks) = found else {
-            return;
+            return rank;
         };
         sides[rank] = ranks;
         rank += 1;
     }
+    rank
 }

@@ -1,4 +1,5 @@
 -- Laws that the proofs of this crate cite.
 pub mod Soundness
 pub mod Judging
+pub mod Facing
 pub mod Taking

@@ -1,13 +1,14 @@
--- The items of a payload are taken one by one. Why the loop reads what the definition reads: what the definition still
--- has to do behind the items taken stays what it had to do at the start; a refusal, or the last item, ends both.
-use Prim.Native.Nat.{ℕ, suc, _+_, _-_, _*_, _≤_, _<_}
-use native.Mathlib.Nat.{le-of-mul-le-mul-left, lt-of-mul-lt-mul-left, mul-add, mul-one, mul-zero, add-assoc, add-zero}
+-- The items of a payload are taken one by one, by 6 and 7. Why the loop leaves to rule 8 what the definition reads: with the
+-- items taken still to be judged by 8, what the definition has to do behind them stays what it had to do at the start; a refusal,
+-- or the last item, ends both.
+use Prim.Native.Nat.{ℕ, _+_, _-_, _*_, _≤_, _<_}
+use native.Mathlib.Nat.{lt-of-mul-lt-mul-left, mul-add, mul-one, mul-zero, add-assoc, add-zero}
 use native.Mathlib.Omega.{arith}
 use native.Mathlib.Numerals.{add-one}
 use mathlib.Core.Path.{_≡_, refl, sym, ap, _∙_, subst, subst₂}
 use mathlib.Core.Bool.{Bool, true, false, not, cond}
 use mathlib.Core.List.{List, [], _∷_, _++_}
-use lib.ListN.{length, take, drop, set, length-drop}
+use lib.ListN.{length, take, drop, length-drop}
 use lib.Seq.{drop-drop}
 use Rattle.format.specs.Numbers.{vertex, twice, face}
 use Rattle.format.specs.Simplex.{soundSimplex, listed, allListed}
@@ -16,96 +17,89 @@ use Rattle.format.specs.Reading.{Reading, refused, refuseIf, owedFacets, itemsO
 use Rattle.format.specs.Items.{items-next, items-none}
 use Rattle.lists.proofs.Four.{length-part}
 use Rattle.lists.specs.declared.Verdict.the-variants.{Fine, Refused}
-use Rattle.lookup.specs.Indexed.{Proper, Indexed, Blank, Entered}
+use Rattle.lookup.specs.Indexed.{Proper, Keyed, Indexed, Blank, Entered}
 use Rattle.lookup.specs.IndexLaws.{proper-none, proper-more, indexed-none, indexed-more}
 use Rattle.lookup.specs.Numbered.{simplicesIn}
 use Rattle.lookup.specs.NumberedLaws.{none-in, more-in}
-use Rattle.lookup.specs.Sides.{Sided}
-use Rattle.lookup.specs.SidesLaws.{sided-none, sided-longer}
-use Rattle.reading_lists.specs.Items.{refusalOf, FacesIn, refusalIn, JudgedSo, ItemsTold, Shaped}
-use Rattle.reading_lists.specs.declared.Judged.{Judged}
-use Rattle.reading_lists.specs.declared.Judged.the-variants as judgement
+use Rattle.reading_lists.specs.Items.{refusalOf, facesJudged, ItemsTaken, Shaped}
+use Rattle.reading_lists.proofs.Facing.{faces-more}
 
--- three checks in a row: the first that holds refuses, and where none does the reading goes on
+-- two checks in a row: the first that holds refuses, and where neither does the reading goes on
 module _ {A : Type 0} (place : ℕ) (next : Reading A) where
-  abbrev checked : Bool → Bool → Bool → Reading A
-  checked x y z = refuseIf x vertex place (refuseIf y twice place (refuseIf z face place next))
+  abbrev checked : Bool → Bool → Reading A
+  checked x y = refuseIf x vertex place (refuseIf y twice place next)
 
-  abbrev firstOf : Bool → Bool → Bool → ℕ
-  firstOf x y z = cond x vertex (cond y twice (cond z face 0))
+  abbrev firstOf : Bool → Bool → ℕ
+  firstOf x y = cond x vertex (cond y twice 0)
 
-  checked-refused : (x y z : Bool) → (firstOf x y z ≡ 0 → ⊥) → checked x y z ≡ refused (firstOf x y z) place
-  checked-refused true y z h = refl
-  checked-refused false true z h = refl
-  checked-refused false false true h = refl
-  checked-refused false false false h = absurd (h refl)
+  checked-refused : (x y : Bool) → (firstOf x y ≡ 0 → ⊥) → checked x y ≡ refused (firstOf x y) place
+  checked-refused true y h = refl
+  checked-refused false true h = refl
+  checked-refused false false h = absurd (h refl)
 
-  checked-passed : (x y z : Bool) → firstOf x y z ≡ 0 → checked x y z ≡ next
-  checked-passed true y z h = absurd (omega arith)
-  checked-passed false true z h = absurd (omega arith)
-  checked-passed false false true h = absurd (omega arith)
-  checked-passed false false false h = refl
+  checked-passed : (x y : Bool) → firstOf x y ≡ 0 → (checked x y ≡ next) × (y ≡ false)
+  checked-passed true y h = absurd (omega arith)
+  checked-passed false true h = absurd (omega arith)
+  checked-passed false false h = (refl, refl)
 
 module _ (width v : ℕ) (faces : List format.Simplex) (at : ℕ) (before : List format.Simplex) (s : format.Simplex) (rest : List format.Simplex) where
-  item-refused : (refusalOf width v faces before s ≡ 0 → ⊥) → readItems width v faces at before (s ∷ rest) ≡ refused (refusalOf width v faces before s) at
+  item-refused : (refusalOf v before s ≡ 0 → ⊥) → readItems width v faces at before (s ∷ rest) ≡ refused (refusalOf v before s) at
   unfolding readItems refusalOf
-  item-refused h = checked-refused at _ (not (soundSimplex v s)) (listed s before) (not (allListed (owedFacets width s) faces)) h
+  item-refused h = checked-refused at _ (not (soundSimplex v s)) (listed s before) h
 
-  item-passed : refusalOf width v faces before s ≡ 0 → readItems width v faces at before (s ∷ rest) ≡ readItems width v faces (at + width) (before ++ (s ∷ [])) rest
+  -- what 6 and 7 let through is new, and left to rule 8
+  item-passed : refusalOf v before s ≡ 0
+      → (readItems width v faces at before (s ∷ rest)
+      ≡ refuseIf (not (allListed (owedFacets width s) faces)) face at (readItems width v faces (at + width) (before ++ (s ∷ [])) rest))
+      × (listed s before ≡ false)
   unfolding readItems refusalOf
-  item-passed h = checked-passed at _ (not (soundSimplex v s)) (listed s before) (not (allListed (owedFacets width s) faces)) h
+  item-passed h = checked-passed at _ (not (soundSimplex v s)) (listed s before) h
 
--- The items up to `at` are entered and, where they are no edges, their sides kept; the rest is still to be read. All this is
--- over whatever list the faces' keys are of.
-pub record Taking (p : List ℕ) (base v width : ℕ) (faceKeys : List ℕ) (m count at : ℕ)
-    (keys₀ first₀ next₀ sides₀ keys first next sides : List ℕ) : Type 0 where
+-- The items up to `at` are entered and not yet judged by 8; the rest is still to be read.
+pub record Taking (p : List ℕ) (base v width count at : ℕ) (keys₀ first₀ next₀ keys first next : List ℕ) : Type 0 where
   pub taken : width * count ≡ at
   pub within : at ≤ length p
-  pub rest : (faces : List format.Simplex) → FacesIn width faces faceKeys m
-      → readItems width v faces base [] (itemsOf width p) ≡ readItems width v faces (base + at) (simplicesIn width keys count) (itemsOf width (drop at p))
+  pub rest : (faces : List format.Simplex)
+      → readItems width v faces base [] (itemsOf width p)
+      ≡ facesJudged width faces base (simplicesIn width keys count)
+      (readItems width v faces (base + at) (simplicesIn width keys count) (itemsOf width (drop at p)))
   pub proper : Proper width (simplicesIn width keys count)
   pub indexed : Indexed (simplicesIn width keys count) keys first next count
   pub blank : Blank keys₀ first₀ next₀
   pub keys-kept : length keys ≡ length keys₀
   pub first-kept : length first ≡ length first₀
   pub next-kept : length next ≡ length next₀
-  pub sided : 2 < width → (faces : List format.Simplex) → FacesIn width faces faceKeys m
-      → Sided faces (simplicesIn width keys count) sides count
-  pub sides-kept : length sides ≡ length sides₀
 
-module _ {p : List ℕ} {base v width : ℕ} {faceKeys : List ℕ} {m : ℕ} where
-  pub taking-start : {keys first next sides : List ℕ} → Blank keys first next
-      → Taking p base v width faceKeys m 0 0 keys first next sides keys first next sides
+module _ {p : List ℕ} {base v width : ℕ} where
+  pub taking-start : {keys first next : List ℕ} → Blank keys first next → Taking p base v width 0 0 keys first next keys first next
+  unfolding facesJudged
   taking-start {keys} {first} {next} blank =
       record {
         taken = mul-zero width;
         within = omega arith;
-        rest = λ faces under. rw (add-zero, none-in width keys);
+        rest = λ faces. rw (add-zero, none-in width keys);
         proper = subst (Proper width) (sym (none-in width keys)) (proper-none width);
         indexed = subst (λ (l : List format.Simplex). Indexed l keys first next 0) (sym (none-in width keys)) (indexed-none (blank .none));
         blank = blank;
         keys-kept = refl;
         first-kept = refl;
         next-kept = refl;
-        sided = λ wide faces under. sided-none;
-        sides-kept = refl;
       }
 
-  module _ {count at : ℕ} {keys₀ first₀ next₀ sides₀ keys first next sides : List ℕ}
-      (t : Taking p base v width faceKeys m count at keys₀ first₀ next₀ sides₀ keys first next sides)
-      (shape : Shaped p base width) where
-    -- no more bytes stand in the payload than a full list has
-    few : count ≤ 512
-    few = le-of-mul-le-mul-left {k = width} (omega (arith, t .taken, t .within, shape)) (omega (arith, shape))
+  module _ {count at : ℕ} {keys₀ first₀ next₀ keys first next : List ℕ}
+      (t : Taking p base v width count at keys₀ first₀ next₀ keys first next) (shape : Shaped p base width) where
+    -- the items taken
+    abbrev l : List format.Simplex
+    l = simplicesIn width keys count
 
-    pub taking-end : length p - at < width
-        → ItemsTold p base v width faceKeys m keys first next sides (record { verdict = Fine; count = count })
+    pub taking-end : length p - at < width → ItemsTaken p base v width keys first next (record { verdict = Fine; count = count })
     unfolding readItems
     taking-end short = record {
-      reads = λ faces under. sym (t .rest faces under ∙ rw (items-none width (drop at p) (rw (length-drop at p) short)));
+      reads = λ faces.
+          t .rest faces ∙ rw (items-none width (drop at p) (rw (length-drop at p) short));
+      proper = t .proper;
       indexed = t .indexed;
-      few = few;
-      sided = t .sided;
+      within = omega (arith, t .taken, t .within);
     }
 
     module _ (enough : width ≤ length p - at) where
@@ -119,12 +113,12 @@ module _ {p : List ℕ} {base v width : ℕ} {faceKeys : List ℕ} {m : ℕ} whe
       pub next-room : count < length next
       next-room = omega (arith, room, t .blank .next-room, t .next-kept)
 
-      pub sides-room : (2 < width → 512 ≤ length sides₀) → 2 < width → count < length sides
-      sides-room long wide = omega (arith, room, long wide, t .sides-kept)
-
-      -- the next item
+      -- the next item, and what the definition reads behind it
       abbrev s : format.Simplex
       s = take width (drop at p)
+
+      abbrev behind : List format.Simplex → Reading (List format.Simplex)
+      behind faces = readItems width v faces (base + at + width) (l ++ (s ∷ [])) (itemsOf width (drop (at + width) p))
 
       next-item : itemsOf width (drop at p) ≡ s ∷ itemsOf width (drop (at + width) p)
       next-item =
@@ -134,50 +128,50 @@ module _ {p : List ℕ} {base v width : ℕ} {faceKeys : List ℕ} {m : ℕ} whe
       item-wide : length s ≡ width
       item-wide = length-part p at width (omega (arith, t .within))
 
-      module _ {r : Judged} (judged : JudgedSo keys count faceKeys m s v width r) where
-        number-is : (faces : List format.Simplex) → FacesIn width faces faceKeys m
-            → refusalIn r ≡ refusalOf width v faces (simplicesIn width keys count) s
-        number-is faces under = judged .is (simplicesIn width keys count) faces (t .proper) (t .indexed .keyed) under
+      module _ {r : ℕ} (judged : (before : List format.Simplex) → Proper width before → Keyed before keys count → r ≡ refusalOf v before s) where
+        number-is : r ≡ refusalOf v l s
+        number-is = judged l (t .proper) (t .indexed .keyed)
 
-        pub taking-refused : {number : ℕ} → r ≡ judgement.Refused number
-            → ItemsTold p base v width faceKeys m keys first next sides (record { verdict = Refused number (base + at); count = count })
-        taking-refused {number} e = record {
-          reads = λ faces under.
-              let is : number ≡ refusalOf width v faces (simplicesIn width keys count) s = sym (ap refusalIn e) ∙ number-is faces under in
-              sym (t .rest faces under ∙ rw (next-item, is)
-              (item-refused width v faces (base + at) (simplicesIn width keys count) s _ (λ z. judged .real e (is ∙ z))));
+        pub taking-refused : (r ≡ 0 → ⊥) → ItemsTaken p base v width keys first next (record { verdict = Refused r (base + at); count = count })
+        taking-refused some = record {
+          reads = λ faces.
+              t .rest faces ∙ ap (facesJudged width faces base l)
+              (ap (readItems width v faces (base + at) l) next-item
+              ∙ item-refused width v faces (base + at) l s _ (λ z. some (number-is ∙ z))
+              ∙ ap (λ (k : ℕ). refused k (base + at)) (sym number-is));
+          proper = t .proper;
           indexed = t .indexed;
-          few = few;
-          sided = t .sided;
+          within = omega (arith, t .taken, t .within);
         }
 
-        pub taking-on : {k : ℕ} {keys′ first′ next′ sides′ : List ℕ} → r ≡ judgement.Sound k → Entered s keys keys′ first′ next′ count
+        pub taking-on : {keys′ first′ next′ : List ℕ} → r ≡ 0 → Entered s keys keys′ first′ next′ count
             → length keys′ ≡ length keys → length first′ ≡ length first → length next′ ≡ length next
-            → (2 < width → 512 ≤ length sides₀) → (2 < width → sides′ ≡ set sides count k) → length sides′ ≡ length sides
-            → Taking p base v width faceKeys m (count + 1) (at + width) keys₀ first₀ next₀ sides₀ keys′ first′ next′ sides′
-        taking-on {k} {keys′} {first′} {next′} {sides′} sound entered keys-long first-long next-long sides-most kept sides-long =
+            → Taking p base v width (count + 1) (at + width) keys₀ first₀ next₀ keys′ first′ next′
+        taking-on {keys′} {first′} {next′} none entered keys-long first-long next-long =
             record {
               taken = rw (mul-add, mul-one, t .taken);
               within = omega (arith, t .within, shape);
-              rest = λ faces under.
-                  t .rest faces under ∙ ap (readItems width v faces (base + at) (simplicesIn width keys count)) next-item ∙
-                  item-passed width v faces (base + at) (simplicesIn width keys count) s _ (sym (number-is faces under) ∙ ap refusalIn sound) ∙
-                  rw (grown, add-assoc);
-              proper = subst (Proper width) (sym grown) (proper-more (simplicesIn width keys count) s (t .proper) item-wide
-                  (judged .new sound (simplicesIn width keys count) (t .proper) (t .indexed .keyed)));
+              rest = λ faces.
+                  t .rest faces ∙ ap (facesJudged width faces base l)
+                  (ap (readItems width v faces (base + at) l) next-item ∙ passed faces .0
+                  ∙ ap (λ (a : ℕ). refuseIf (not (allListed (owedFacets width s) faces)) face a (behind faces)) place)
+                  ∙ sym (faces-more width faces base l s (behind faces)) ∙ rw (grown, add-assoc);
+              proper = subst (Proper width) (sym grown) (proper-more l s (t .proper) item-wide (passed [] .1));
               indexed = subst₂ (λ (l : List format.Simplex) (n : ℕ). Indexed l keys′ first′ next′ n) (sym grown) (sym (add-one count))
-                  (indexed-more (simplicesIn width keys count) s (t .indexed) keys-room entered);
+                  (indexed-more l s (t .indexed) keys-room entered);
               blank = t .blank;
               keys-kept = keys-long ∙ t .keys-kept;
               first-kept = first-long ∙ t .first-kept;
               next-kept = next-long ∙ t .next-kept;
-              sided = λ wide faces under.
-                  let longer : Sided faces (simplicesIn width keys count ++ (s ∷ [])) (set sides count k) (suc count) =
-                  sided-longer s (t .sided wide faces under) (t .indexed .keyed .count) (sides-room sides-most wide) (judged .sided sound wide faces under) in
-                  subst₂ (λ (l : List format.Simplex) (n : ℕ). Sided faces l sides′ n) (sym grown) (sym (add-one count))
-                  (subst (λ (k : List ℕ). Sided faces (simplicesIn width keys count ++ (s ∷ [])) k (suc count)) (sym (kept wide)) longer);
-              sides-kept = sides-long ∙ t .sides-kept;
             }
           where
-            grown : simplicesIn width keys′ (count + 1) ≡ simplicesIn width keys count ++ (s ∷ [])
+            grown : simplicesIn width keys′ (count + 1) ≡ l ++ (s ∷ [])
             grown = ap (simplicesIn width keys′) (add-one count) ∙ more-in width keys keys-room item-wide entered
+
+            place : base + at ≡ base + width * length l
+            place = ap (λ (a : ℕ). base + a) (sym (t .taken) ∙ ap (λ (n : ℕ). width * n) (t .indexed .keyed .count))
+
+            passed : (faces : List format.Simplex)
+                → (readItems width v faces (base + at) l (s ∷ itemsOf width (drop (at + width) p))
+                ≡ refuseIf (not (allListed (owedFacets width s) faces)) face (base + at) (behind faces)) × (listed s l ≡ false)
+            passed faces = item-passed width v faces (base + at) l s _ (sym number-is ∙ none)

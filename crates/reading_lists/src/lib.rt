@@ -4,17 +4,16 @@
 ghost use mathlib.Core.Path.{_≡_};
 ghost use mathlib.Core.List.{List};
 ghost use Prim.Native.Nat.{_+_, _≤_, _<_};
-ghost use lib.ListN.{length, getD, set, take, drop};
+ghost use lib.ListN.{length, getD, take, drop};
 ghost use Rattle.format.specs.Simplex.{soundSimplex, listed};
 ghost use Rattle.format.specs.Simplex as format;
 ghost use Rattle.keys.specs.Chained.{Chained};
 ghost use Rattle.lookup.specs.Indexed.{NumberOf, Keyed, Proper, Blank};
-ghost use Rattle.reading_lists.specs.Items.{JudgedSo, ItemsTold, Shaped};
+ghost use Rattle.reading_lists.specs.Items.{refusalOf, Shaped, ItemsTaken, ItemsTold};
 use lists::Found;
 use lists::Verdict;
-use lookup::Facets;
 
-// What reading a list comes to: how many items are entered. Where it was refused, the items before are.
+// What reading a list comes to: how many items are entered. Where one is refused by 6 or 7, those before it are.
 pub struct ItemsRead {
     pub verdict: Verdict,
     pub count: usize,
@@ -77,65 +76,74 @@ fn entered(keys: &[u64], first: &[u16], next: &[u16], n: usize, number: u64) -> 
     }
 }
 
-// What judging an item comes to: its sides, which of an edge are its own number, or the refusal.
-pub enum Judged {
-    Sound(u64),
-    Refused(u16),
-}
-
-// The item at a place, which has a number, behind the n items entered, over the m faces entered: the first of 6 vertex,
-// 7 twice and 8 face that it meets. An edge's facets are vertices, which rule 6 has settled.
+// The item at a place, which has a number, behind the n items entered: the first of 6 vertex and 7 twice that refuses it, or 0.
 fn judge(
     keys: &[u64],
     first: &[u16],
     next: &[u16],
     n: usize,
-    face_keys: &[u64],
-    face_first: &[u16],
-    face_next: &[u16],
-    m: usize,
     p: &[u8],
     at: usize,
     number: u64,
     v: u16,
     width: usize,
-) -> Judged
+) -> u16
     requires { ⌜ Chained (now keys) (now first) (now next) n ⌝ }
-    requires { ⌜ Chained (now «face_keys») (now «face_first») (now «face_next») m ⌝ }
-    requires { ⌜ (width ≤ 4) × (m ≤ 65536) × (at + width ≤ length (now p)) ⌝ }
+    requires { ⌜ at + width ≤ length (now p) ⌝ }
     requires { ⌜ NumberOf (take width (drop at (now p))) number ⌝ }
-    ensures { λ r. ⌜ JudgedSo (now (keys .entry)) n (now («face_keys» .entry)) m (take width (drop at (now (p .entry)))) v width r ⌝ }
+    ensures { λ r. ⌜ ((before : List format.Simplex) → Proper width before → Keyed before (now (keys .entry)) n → r ≡ refusalOf v before (take width (drop at (now (p .entry))))) ⌝ }
 {
     let repeated = entered(keys, first, next, n, number);
     let unsound = !sound_at(p, at, width, v);
     if unsound {
-        return Judged::Refused(Verdict::VERTEX);
+        return Verdict::VERTEX;
     }
     if repeated {
-        return Judged::Refused(Verdict::TWICE);
+        return Verdict::TWICE;
     }
-    if width <= 2 {
-        return Judged::Sound(number);
-    }
-    let found = lookup::facet_ranks(face_keys, face_first, face_next, m, number, width);
-    match found {
-        Facets::Ranked(sides) => Judged::Sound(sides),
-        Facets::Lacking => Judged::Refused(Verdict::FACE),
-    }
+    0
 }
 
-// Keeps an item's sides, which an edge does not need: its number says them.
-fn keep_sides(sides: &mut [u64], place: usize, width: usize, found: u64)
-    requires { ⌜ (2 < width → place < length (now sides)) ⌝ }
-    ensures { λ _. ⌜ (2 < width → now (sides .exit) ≡ set (now (sides .entry)) place found) ⌝ }
+// The items of the payload `p`, which starts at `base` of the file, up to the first that 6 vertex or 7 twice refuses: their
+// number, and that refusal with its place. They are entered, so their numbers stand in the keys.
+fn take_items(
+    p: &[u8],
+    base: usize,
+    v: u16,
+    width: usize,
+    keys: &mut [u64],
+    first: &mut [u16],
+    next: &mut [u16],
+) -> ItemsRead
+    requires { ⌜ Shaped (now p) base width ⌝ }
+    requires { ⌜ Blank (now keys) (now first) (now next) ⌝ }
+    ensures { λ r. ⌜ ItemsTaken (now (p .entry)) base v width (now (keys .exit)) (now (first .exit)) (now (next .exit)) r ⌝ }
 {
-    if 2 < width {
-        sides[place] = found;
+    let mut count = 0;
+    let mut at = 0;
+    while width <= p.len() - at {
+        let number = number_at(p, at, width);
+        let refusal = judge(keys, first, next, count, p, at, number, v, width);
+        if refusal != 0 {
+            return ItemsRead {
+                verdict: Verdict::Refused(refusal, base + at),
+                count,
+            };
+        }
+        keys::link(keys, first, next, count, number);
+        count += 1;
+        at += width;
+    }
+    ItemsRead {
+        verdict: Verdict::Fine,
+        count,
     }
 }
 
 // The items of the payload `p`, which starts at `base` of the file, over the m faces entered: their number, or the first
-// refusal with its place. The items read are entered, so their numbers stand in the keys, and their sides are kept.
+// refusal with its place. Those that 6 and 7 let through are entered, and where nothing is refused their sides are kept. Rule 8
+// asks for faces and not for other items, so it can wait until all are taken: two short loops run faster than one long one. An
+// edge's facets are vertices, which 6 has settled.
 pub fn read_items(
     p: &[u8],
     base: usize,
@@ -156,42 +164,26 @@ pub fn read_items(
     requires { ⌜ (m ≤ 512) × (2 < width → 512 ≤ length (now sides)) ⌝ }
     ensures { λ r. ⌜ ItemsTold (now (p .entry)) base v width (now («face_keys» .entry)) m (now (keys .exit)) (now (first .exit)) (now (next .exit)) (now (sides .exit)) r ⌝ }
 {
-    let mut count = 0;
-    let mut at = 0;
-    while width <= p.len() - at {
-        let number = number_at(p, at, width);
-        let judged = judge(
-            keys,
-            first,
-            next,
-            count,
-            face_keys,
-            face_first,
-            face_next,
-            m,
-            p,
-            at,
-            number,
-            v,
-            width,
-        );
-        match judged {
-            Judged::Refused(refusal) => {
-                return ItemsRead {
-                    verdict: Verdict::Refused(refusal, base + at),
-                    count,
-                };
-            }
-            Judged::Sound(found) => {
-                keep_sides(sides, count, width, found);
-            }
-        }
-        keys::link(keys, first, next, count, number);
-        count += 1;
-        at += width;
+    let taken = take_items(p, base, v, width, keys, first, next);
+    if width <= 2 {
+        return taken;
     }
-    ItemsRead {
-        verdict: Verdict::Fine,
+    let count = taken.count;
+    let found = lookup::find_sides(
+        face_keys,
+        face_first,
+        face_next,
+        m,
+        keys,
         count,
+        width,
+        sides,
+    );
+    if found < count {
+        return ItemsRead {
+            verdict: Verdict::Refused(Verdict::FACE, base + width * found),
+            count,
+        };
     }
+    taken
 }

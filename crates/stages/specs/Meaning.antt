@@ -6,6 +6,7 @@ use Rattle.format.specs.Numbers.{small}
 use Rattle.format.specs.Simplex.{Simplex}
 use Rattle.format.specs.Reading.{Reading, accepted, refused, Listing, readList}
 use Rattle.lists.specs.Verdicts.{readingOf}
+use Rattle.lists.specs.declared.Verdict.the-variants.{Fine}
 use Rattle.lookup.specs.Indexed.{Indexed}
 use Rattle.lookup.specs.Numbered.{simplicesIn}
 use Rattle.lookup.specs.Sides.{Sided}
@@ -24,10 +25,10 @@ abbrev pub listRead : (kind : ℕ) → List ℕ → ListRead → Reading Listing
 listRead kind keys r = readingOf (r .verdict) (record { list = simplicesIn kind keys (r .count); next = r .next })
 
 -- What reading a list record leaves: the definition's reading, over whatever list the faces' keys are of, an index of the
--- list read, and the sides of its simplices where they are no edges.
+-- simplices entered, and, where none is refused and they are no edges, their sides.
 pub record ListTold (b : List ℕ) (at kind v : ℕ) (faceKeys : List ℕ) (m : ℕ) (keys first next sides : List ℕ) (r : ListRead) : Type 0 where
   pub reads : (faces : List Simplex) → FacesIn kind faces faceKeys m → listRead kind keys r ≡ readList small b at kind v faces
   pub indexed : Indexed (simplicesIn kind keys (r .count)) keys first next (r .count)
   pub few : r .count ≤ 512
-  pub sided : 2 < kind → (faces : List Simplex) → FacesIn kind faces faceKeys m
+  pub sided : r .verdict ≡ Fine → 2 < kind → (faces : List Simplex) → FacesIn kind faces faceKeys m
       → Sided faces (simplicesIn kind keys (r .count)) sides (r .count)

@@ -276,8 +276,8 @@ returns-3 c =
         edges = e .read-list .ensures .indexed .keyed;
         triangles = t .read-list2 .ensures .indexed .keyed;
         tetrahedra = read .read-list3 .ensures .indexed .keyed;
-        triangle-sides = t .read-list2 .ensures .sided (omega arith) _ under-triangles;
-        tetrahedron-sides = read .read-list3 .ensures .sided (omega arith) _ under-tetrahedra;
+        triangle-sides = t .read-list2 .ensures .sided (told .enum-told2 .given .1) (omega arith) _ under-triangles;
+        tetrahedron-sides = read .read-list3 .ensures .sided f (omega arith) _ under-tetrahedra;
       };
       linked = λ f. e .read-list .ensures .indexed;
     }

@@ -2,7 +2,7 @@
 -- Assumes nothing.
 use Prim.Native.Nat.{_-_}
 use native.Mathlib.Omega.{arith}
-use Rattle.lookup.specs.SidesLaws.{SidesFound, finding-start, finding-on, finding-none, finding-end}
+use Rattle.lookup.specs.SidesLaws.{SidesFound, finding-start, finding-on, finding-lacks, finding-end}
 use borrow.Author.Needs.{needs}
 use Rattle.lookup.proofs.find_sides.Statement.{statement}
 use Rattle.lookup.proofs.find_sides.Tie as tie
@@ -35,11 +35,11 @@ same-length : tie.Need-same-length Inv-loop μ-loop
 same-length c = search needs
 
 returns : tie.Need-returns Inv-loop μ-loop
-returns c = λ faces l proper keyed wide own closed.
+returns c = λ faces l proper keyed wide own.
     let looked = c .before .before in
     let turn = looked .before .before in
-    finding-none (turn .before .loop .inv) (turn .loop-test .taken) (looked .facet-ranks .ensures) (c .enum-told .given .1)
-    faces l proper keyed wide own closed
+    finding-lacks (turn .before .loop .inv) (turn .loop-test .taken) (looked .facet-ranks .ensures) (c .enum-told .given .1)
+    faces l proper keyed wide own
 
 mul-sides : tie.Need-mul-sides Inv-loop μ-loop
 mul-sides c = search needs
@@ -66,7 +66,7 @@ same-length-2 : tie.Need-same-length-2 Inv-loop μ-loop
 same-length-2 c = search needs
 
 returns-2 : tie.Need-returns-2 Inv-loop μ-loop
-returns-2 c = λ faces l proper keyed wide own closed. finding-end (c .before .loop .inv) (c .loop-test .left) faces l proper keyed wide own closed
+returns-2 c = λ faces l proper keyed wide own. finding-end (c .before .loop .inv) (c .loop-test .left) faces l proper keyed wide own
 
 pub find-sides-spec : {M : Type 1} → statement M
 find-sides-spec =

@@ -5,7 +5,7 @@ use mathlib.Core.Bool.{not}
 use denote.Ref.{now}
 use lib.ListN.{length, take, drop}
 use Rattle.lists.proofs.Four.{length-part}
-use Rattle.reading_lists.proofs.Judging.{judged-unsound, judged-twice, judged-edge, judged-sound, judged-lacking}
+use Rattle.reading_lists.proofs.Judging.{judged-unsound, judged-twice, judged-sound}
 use borrow.Author.Needs.{needs}
 use Rattle.reading_lists.proofs.judge.Statement.{statement}
 use Rattle.reading_lists.proofs.judge.Tie as tie
@@ -18,68 +18,27 @@ sound-at-requires c κs = search needs
 
 -- what is known of the item
 abbrev start : tie.After-sound-at → tie.Start
-start c = c .before .before .before .before .before .before .before .before .before
+start c = c .before .before .before .before .before .before
 
 wide : (c : tie.After-sound-at) → let a = start c .args in length (take (a .width) (drop (a .at) (now (a .p)))) ≡ a .width
-wide c = let a = start c .args in length-part (now (a .p)) (a .at) (a .width) (start c .pre .1 .1 .0 .2)
+wide c = let a = start c .args in length-part (now (a .p)) (a .at) (a .width) (start c .pre .1 .0)
 
 returns : tie.Need-returns
-returns c = judged-unsound (ap not (sym (c .before .sound-at .ensures)) ∙ c .if1 .taken)
+returns c = λ before proper keyed. judged-unsound _ _ (ap not (sym (c .before .sound-at .ensures)) ∙ c .if1 .taken) before
 
 returns-2 : tie.Need-returns-2
-returns-2 c =
+returns-2 c = λ before proper keyed.
     let passed = c .before in
     let tried = passed .before in
-    judged-twice (wide tried) (start tried .pre .1 .1 .1) (ap not (sym (tried .sound-at .ensures)) ∙ passed .if1 .left)
-    (tried .before .entered .ensures) (c .if2 .taken)
+    judged-twice _ _ (wide tried) (start tried .pre .1 .1) (ap not (sym (tried .sound-at .ensures)) ∙ passed .if1 .left)
+    (tried .before .entered .ensures) before proper keyed (c .if2 .taken)
 
 returns-3 : tie.Need-returns-3
-returns-3 c =
-    let new = c .before in
-    let passed = new .before in
+returns-3 c = λ before proper keyed.
+    let passed = c .before in
     let tried = passed .before in
-    judged-edge (wide tried) (start tried .pre .1 .1 .1) (ap not (sym (tried .sound-at .ensures)) ∙ passed .if1 .left)
-    (tried .before .entered .ensures) (new .if2 .left) (c .if3 .taken)
-
-facet-ranks-requires : tie.Need-facet-ranks-requires
-facet-ranks-requires c κs = search needs
-
-enum-known-found : tie.Need-enum-known-found
-enum-known-found c = search needs
-
-enum-told : tie.Need-enum-told
-enum-told c = search needs
-
-returns-4 : tie.Need-returns-4
-returns-4 c =
-    let found = c .before in
-    let looked = found .before .before in
-    let new = looked .before .before in
-    let passed = new .before in
-    let tried = passed .before in
-    judged-sound (wide tried) (start tried .pre .1 .1 .1) (ap not (sym (tried .sound-at .ensures)) ∙ passed .if1 .left)
-    (tried .before .entered .ensures) (new .if2 .left) (looked .before .if3 .left) (looked .facet-ranks .ensures) (found .found .given .1)
-
-returns-5 : tie.Need-returns-5
-returns-5 c =
-    let looked = c .before .before in
-    let new = looked .before .before in
-    let passed = new .before in
-    let tried = passed .before in
-    judged-lacking (wide tried) (start tried .pre .1 .1 .1) (ap not (sym (tried .sound-at .ensures)) ∙ passed .if1 .left)
-    (tried .before .entered .ensures) (new .if2 .left) (looked .before .if3 .left) (looked .facet-ranks .ensures) (c .enum-told .given .1)
+    judged-sound _ _ (wide tried) (start tried .pre .1 .1) (ap not (sym (tried .sound-at .ensures)) ∙ passed .if1 .left)
+    (tried .before .entered .ensures) before proper keyed (c .if2 .left)
 
 pub judge-spec : {M : Type 1} → statement M
-judge-spec =
-    tie.close
-    (tie.spec
-    entered-requires
-    sound-at-requires
-    returns
-    returns-2
-    returns-3
-    facet-ranks-requires
-    enum-known-found
-    enum-told
-    returns-4
-    returns-5)
+judge-spec = tie.close (tie.spec entered-requires sound-at-requires returns returns-2 returns-3)
