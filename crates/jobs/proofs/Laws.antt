@@ -2,7 +2,7 @@
 use Prim.Native.Nat.{ℕ, suc, _+_, _-_, _≤_, _<_}
 use native.Mathlib.Numerals.{sub-one}
 use mathlib.Core.Path.{_≡_, refl, sym, _∙_, ap, subst, fun-ext}
-use mathlib.Core.Bool.{Bool, true, false, not}
+use mathlib.Core.Bool.{Bool, true, false, not, false≢true}
 use mathlib.Core.Logic.{_⊎_, inl, inr}
 use mathlib.Core.List.{List, []}
 use native.Mathlib.Omega.{arith}
@@ -10,7 +10,7 @@ use lib.ListN.{length}
 use lib.Dec.{eqb, leb, ltb}
 use borrow.Author.Tests.{lt-ltb, le-ltb, eq-eqb, ne-eqb}
 use Rattle.format.specs.Numbers.{small, tooLong, shape, badHead, headKind, edgesKind, trianglesKind, tetrahedraKind}
-use Rattle.format.specs.Simplex.{Simplex, SimplexSet, simplices}
+use Rattle.format.specs.Simplex.{Simplex, SimplexSet, listed, simplices}
 use Rattle.format.specs.Simplex as format
 use Rattle.format.specs.Reading.{Reading, accepted, refused, _andThen_, Listing, Chosen, readList, readChain, readEdits, readHead, afterHead, afterLists, reading, recordAt, headFits, payloadAt, chainDimension, questionOf}
 use Rattle.format.specs.Reading as reader
@@ -109,12 +109,13 @@ list-known b at kind v faces l positive e =
 
 -- AN INDEX of a list that was read serves the reading of the list above it.
 pub faces-in : (width : ℕ) {v n : ℕ} {faces : List Simplex} (l : List Simplex) {keys first next : List ℕ} → ListSound (width - 1) v faces l
-    → Indexed l keys first next n → FacesIn width l keys n
-faces-in width l known indexed = record { proper = sound-proper (known .sound); keyed = indexed .keyed }
+    → Indexed l keys first next n → FacesIn width v l keys n
+faces-in width l known indexed = record { sound = known .sound .sound; proper = sound-proper (known .sound); keyed = indexed .keyed }
 
 -- no list lies below the edges
-pub no-faces : (keys : List ℕ) → FacesIn 2 [] keys 0
-no-faces keys = record { proper = proper-none 1; keyed = record { count = refl; own = λ i lt. absurd (omega arith) } }
+pub no-faces : (v : ℕ) (keys : List ℕ) → FacesIn 2 v [] keys 0
+unfolding listed
+no-faces v keys = record { sound = λ f e. absurd (false≢true e); proper = proper-none 1; keyed = record { count = refl; own = λ i lt. absurd (omega arith) } }
 
 -- THE LISTS, one over the other, by what was read of each.
 module _ (b : List ℕ) (at v : ℕ) where

@@ -1,22 +1,24 @@
--- Rule 8 over the items that 6 and 7 let through: where none lacks a facet it owes, what 6 and 7 told stands, and the first that
--- does is refused at its own place. So the rule may wait until all of them are taken.
+-- Rule 8 over the items that were taken: where none lacks a facet it owes, what was told when they were taken stands, and the
+-- first that does is refused at its own place. So the rule may wait until all of them are taken.
 use Prim.Native.Nat.{ℕ, zero, suc, _+_, _-_, _*_, _^_, _≤_, _<_}
-use native.Mathlib.Nat.{mul-zero, mul-suc, mul-le-mul-left, le-of-lt, le-of-mul-le-mul-left}
+use native.Mathlib.Nat.{mul-zero, mul-suc, mul-le-mul-left, le-of-mul-le-mul-left}
 use native.Mathlib.Omega.{arith}
 use mathlib.Core.Path.{_≡_, refl, sym, ap, _∙_, subst}
-use mathlib.Core.Bool.{Bool, true, false, not}
+use mathlib.Core.Bool.{Bool, true, false, not, cond, _||_, false≢true}
 use mathlib.Core.List.{List, [], _∷_, _++_}
-use lib.ListN.{length, getD}
-use borrow.Author.Tests.{le-leb, lt-leb}
-use Rattle.format.specs.Numbers.{face}
-use Rattle.format.specs.Simplex.{Simplex, allListed, facets}
+use lib.ListN.{length, getD, take, drop}
+use lib.Dec.{leb}
+use borrow.Author.Tests.{le-leb, lt-leb, leb-false}
+use Rattle.format.specs.Simplex.{Simplex, soundSimplex, same, listed, allListed, facets}
+use Rattle.format.specs.Listed.{same-equal}
 use Rattle.format.specs.Reading.{Reading, refused, refuseIf, owedFacets}
 use Rattle.lists.specs.declared.Verdict.the-variants.{Refused}
 use Rattle.lookup.specs.Indexed.{Proper, Keyed}
 use Rattle.lookup.specs.Numbered.{simplicesIn}
 use Rattle.lookup.specs.Sides.{Sided, SidesTold}
-use Rattle.reading_lists.specs.Items.{facesJudged, FacesIn, Shaped, ItemsTaken, ItemsTold}
+use Rattle.reading_lists.specs.Items.{lackOf, facesJudged, AllSound, FacesIn, Shaped, ItemsTaken, ItemsTold}
 use Rattle.reading_lists.specs.declared.ItemsRead.{ItemsRead}
+use Rattle.reading_lists.proofs.Faced.{faced-sound}
 
 -- what rule 8 asks of an edge is nothing, and of the others each facet
 edge-owes-none : (width : ℕ) (s : Simplex) (faces : List Simplex) → width ≤ 2 → allListed (owedFacets width s) faces ≡ true
@@ -27,14 +29,14 @@ others-owe : (width : ℕ) (s : Simplex) (faces : List Simplex) (b : Bool) → 2
     → allListed (owedFacets width s) faces ≡ b
 others-owe width s faces b wide e = rw (lt-leb width 2 wide, e)
 
-module _ (width : ℕ) (faces : List Simplex) where
+module _ (width v : ℕ) (faces : List Simplex) where
   -- an item none of whose owed facets is missing
   abbrev Paid : Simplex → Type 0
   Paid s = allListed (owedFacets width s) faces ≡ true
 
   -- rule 8 refuses none of the items, or the first that lacks a facet
   faces-listed : (at : ℕ) (l : List Simplex) (behind : Reading (List Simplex)) → ((i : ℕ) → i < length l → Paid (getD l i []))
-      → facesJudged width faces at l behind ≡ behind
+      → facesJudged width v faces at l behind ≡ behind
   unfolding facesJudged
   faces-listed at [] behind paid = refl
   faces-listed at (s ∷ l) behind paid =
@@ -43,45 +45,69 @@ module _ (width : ℕ) (faces : List Simplex) where
 
   first-lacks : (at : ℕ) (l : List Simplex) (behind : Reading (List Simplex)) (r : ℕ) → r < length l
       → ((i : ℕ) → i < r → Paid (getD l i [])) → allListed (owedFacets width (getD l r [])) faces ≡ false
-      → facesJudged width faces at l behind ≡ refused face (at + width * r)
+      → facesJudged width v faces at l behind ≡ refused (lackOf v (getD l r [])) (at + width * r)
   unfolding facesJudged
   first-lacks at [] behind r lt paid lacks = absurd (omega arith)
   first-lacks at (s ∷ l) behind zero lt paid lacks =
       let place : at ≡ at + width * 0 = omega (arith, mul-zero width) in
-      rw lacks (ap (refused face) place)
+      rw lacks (ap (refused (lackOf v s)) place)
   first-lacks at (s ∷ l) behind (suc r) lt paid lacks =
       let first : Paid s = paid 0 (omega arith) in
       let place : at + width + width * r ≡ at + width * suc r = omega (arith, mul-suc width r) in
-      rw first (first-lacks (at + width) l behind r (omega arith) (λ i lt. paid (suc i) (omega arith)) lacks ∙ ap (refused face) place)
+      rw first (first-lacks (at + width) l behind r (omega arith) (λ i lt. paid (suc i) (omega arith)) lacks ∙ ap (refused (lackOf v (getD l r []))) place)
 
   -- an item more is judged behind the others, at its own place
   pub faces-more : (at : ℕ) (l : List Simplex) (s : Simplex) (behind : Reading (List Simplex))
-      → facesJudged width faces at (l ++ (s ∷ [])) behind
-      ≡ facesJudged width faces at l (refuseIf (not (allListed (owedFacets width s) faces)) face (at + width * length l) behind)
+      → facesJudged width v faces at (l ++ (s ∷ [])) behind
+      ≡ facesJudged width v faces at l (refuseIf (not (allListed (owedFacets width s) faces)) (lackOf v s) (at + width * length l) behind)
   unfolding facesJudged
   faces-more at [] s behind =
       let place : at ≡ at + width * 0 = omega (arith, mul-zero width) in
-      ap (λ (a : ℕ). refuseIf (not (allListed (owedFacets width s) faces)) face a behind) place
+      ap (λ (a : ℕ). refuseIf (not (allListed (owedFacets width s) faces)) (lackOf v s) a behind) place
   faces-more at (t ∷ l) s behind =
       let place : at + width + width * length l ≡ at + width * suc (length l) = omega (arith, mul-suc width (length l)) in
-      ap (refuseIf (not (allListed (owedFacets width t) faces)) face at)
+      ap (refuseIf (not (allListed (owedFacets width t) faces)) (lackOf v t) at)
       (faces-more (at + width) l s behind
-      ∙ ap (λ (a : ℕ). facesJudged width faces (at + width) l (refuseIf (not (allListed (owedFacets width s) faces)) face a behind)) place)
+      ∙ ap (λ (a : ℕ). facesJudged width v faces (at + width) l (refuseIf (not (allListed (owedFacets width s) faces)) (lackOf v s) a behind)) place)
 
--- THE TWO PASSES. The items are taken by 6 and 7, and what is left to rule 8 is said by the look-up of their facets.
+  -- what stands behind the items matters only where none of them lacks a facet
+  pub faces-same : (at : ℕ) (l : List Simplex) (behind other : Reading (List Simplex))
+      → (((f : Simplex) → listed f l ≡ true → Paid f) → behind ≡ other) → facesJudged width v faces at l behind ≡ facesJudged width v faces at l other
+  unfolding facesJudged listed
+  faces-same at [] behind other h = h (λ f e. absurd (false≢true e))
+  faces-same at (t ∷ l) behind other h = go (allListed (owedFacets width t) faces) refl (faces-same (at + width) l behind other)
+    where
+      among : Paid t → ((f : Simplex) → listed f l ≡ true → Paid f) → (f : Simplex) (x : Bool) → same f t ≡ x → x || listed f l ≡ true → Paid f
+      among p rest f true q e = subst Paid (sym (same-equal f t q)) p
+      among p rest f false q e = rest f e
+
+      go : (x : Bool) → allListed (owedFacets width t) faces ≡ x
+          → ((((f : Simplex) → listed f l ≡ true → Paid f) → behind ≡ other)
+          → facesJudged width v faces (at + width) l behind ≡ facesJudged width v faces (at + width) l other)
+          → facesJudged width v faces at (t ∷ l) behind ≡ facesJudged width v faces at (t ∷ l) other
+      go true p later = rw p (later (λ rest. h (λ f e. among p rest f (same f t) refl e)))
+      go false p later = rw p
+
+  -- an item like one of which no facet is missing is sound, where the faces are
+  pub paid-sound : AllSound v faces → (s : Simplex) → length s ≡ width → leb width 2 ≡ false → Paid s → soundSimplex v s ≡ true
+  paid-sound sound s size wide p =
+      let listed-all : allListed (facets s) faces ≡ true = subst (λ (b : Bool). allListed (cond b [] (facets s)) faces ≡ true) wide p in
+      faced-sound v faces sound s (omega (arith, size, leb-false width 2 wide)) listed-all
+
+-- THE TWO PASSES. The items are taken, and what is left to rule 8 is said by the look-up of their facets.
 module _ {p : List ℕ} {base v width : ℕ} {keys first next : List ℕ} {r : ItemsRead}
     (taken : ItemsTaken p base v width keys first next r) (shape : Shaped p base width) where
   -- no more bytes stand in the payload than a full list has
   pub few : r .count ≤ 512
   few = le-of-mul-le-mul-left {k = width} (omega (arith, taken .within, shape)) (omega (arith, shape))
 
-  -- the place of an item that was taken
-  pub place-fits : {i : ℕ} → i < r .count → base + width * i < 2 ^ 64
-  place-fits {i} lt = omega (arith, mul-le-mul-left width (le-of-lt lt), taken .within, shape)
+  -- an item that was taken lies within the payload
+  pub place-within : {i : ℕ} → i < r .count → width * i + width ≤ length p
+  place-within {i} lt = omega (arith, mul-le-mul-left width lt, mul-suc width i, taken .within)
 
   pub edges-read : {faceKeys : List ℕ} {m : ℕ} {sides : List ℕ} → width ≤ 2 → ItemsTold p base v width faceKeys m keys first next sides r
   edges-read edge = record {
-    reads = λ faces under. sym (taken .reads faces ∙ faces-listed width faces base _ _ (λ i lt. edge-owes-none width _ faces edge));
+    reads = λ faces under. sym (taken .reads faces (under .sound) ∙ faces-listed width v faces base _ _ (λ i lt. edge-owes-none width _ faces edge));
     indexed = taken .indexed;
     few = few;
     sided = λ fine wide. absurd (omega arith);
@@ -90,18 +116,19 @@ module _ {p : List ℕ} {base v width : ℕ} {keys first next : List ℕ} {r : I
   module _ (wide : 2 < width) {faceKeys : List ℕ} {m : ℕ} {sides : List ℕ} {found : ℕ}
       (looked : (faces l : List Simplex) → Proper (width - 1) faces → Keyed faces faceKeys m → Proper width l → Keyed l keys (r .count)
       → SidesTold faces l sides (r .count) found) where
-    told : (faces : List Simplex) → FacesIn width faces faceKeys m → SidesTold faces (simplicesIn width keys (r .count)) sides (r .count) found
+    told : (faces : List Simplex) → FacesIn width v faces faceKeys m → SidesTold faces (simplicesIn width keys (r .count)) sides (r .count) found
     told faces under = looked faces _ (under .proper) (under .keyed) (taken .proper) (taken .indexed .keyed)
 
-    paid : (faces : List Simplex) → FacesIn width faces faceKeys m → (i : ℕ) → i < found
-        → Paid width faces (getD (simplicesIn width keys (r .count)) i [])
+    paid : (faces : List Simplex) → FacesIn width v faces faceKeys m → (i : ℕ) → i < found
+        → Paid width v faces (getD (simplicesIn width keys (r .count)) i [])
     paid faces under i lt = others-owe width _ faces true wide (told faces under .listed i lt)
 
-    pub lacking-read : found < r .count
-        → ItemsTold p base v width faceKeys m keys first next sides (record { verdict = Refused face (base + width * found); count = r .count })
-    lacking-read lt = record {
+    pub lacking-read : {refusal : ℕ} → found < r .count → refusal ≡ lackOf v (take width (drop (width * found) p))
+        → ItemsTold p base v width faceKeys m keys first next sides (record { verdict = Refused refusal (base + width * found); count = r .count })
+    lacking-read lt lack = record {
       reads = λ faces under.
-          sym (taken .reads faces ∙ first-lacks width faces base _ _ found (omega (arith, taken .indexed .keyed .count)) (paid faces under)
+          ap (λ (k : ℕ). refused k (base + width * found)) (lack ∙ ap (lackOf v) (sym (taken .own found lt))) ∙
+          sym (taken .reads faces (under .sound) ∙ first-lacks width v faces base _ _ found (omega (arith, taken .indexed .keyed .count)) (paid faces under)
           (others-owe width _ faces false wide (told faces under .lacking lt)));
       indexed = taken .indexed;
       few = few;
@@ -111,7 +138,7 @@ module _ {p : List ℕ} {base v width : ℕ} {keys first next : List ℕ} {r : I
     pub whole-read : r .count ≤ found → ItemsTold p base v width faceKeys m keys first next sides r
     whole-read end = record {
       reads = λ faces under.
-          sym (taken .reads faces ∙ faces-listed width faces base _ _ (λ i lt. paid faces under i (omega (arith, taken .indexed .keyed .count))));
+          sym (taken .reads faces (under .sound) ∙ faces-listed width v faces base _ _ (λ i lt. paid faces under i (omega (arith, taken .indexed .keyed .count))));
       indexed = taken .indexed;
       few = few;
       sided = λ fine wide faces under.

@@ -1,4 +1,4 @@
--- The items of a payload are taken one by one, by 6 and 7. Why the loop leaves to rule 8 what the definition reads: with the
+-- The items of a payload are taken one by one, by 7 and, of edges, 6. Why the loop leaves to rule 8 what the definition reads: with the
 -- items taken still to be judged by 8, what the definition has to do behind them stays what it had to do at the start; a refusal,
 -- or the last item, ends both.
 use Prim.Native.Nat.{ℕ, _+_, _-_, _*_, _≤_, _<_}
@@ -6,10 +6,12 @@ use native.Mathlib.Nat.{lt-of-mul-lt-mul-left, mul-add, mul-one, mul-zero, add-a
 use native.Mathlib.Omega.{arith}
 use native.Mathlib.Numerals.{add-one}
 use mathlib.Core.Path.{_≡_, refl, sym, ap, _∙_, subst, subst₂}
-use mathlib.Core.Bool.{Bool, true, false, not, cond}
+use mathlib.Core.Bool.{Bool, true, false, not, cond, _&&_, false≢true}
 use mathlib.Core.List.{List, [], _∷_, _++_}
-use lib.ListN.{length, take, drop, length-drop}
-use lib.Seq.{drop-drop}
+use native.Mathlib.Decide.{ℕ-discrete}
+use lib.ListN.{length, getD, take, drop, length-drop, List·getD-append}
+use lib.Seq.{drop-drop, getD-append-seam}
+use lib.Dec.{leb}
 use Rattle.format.specs.Numbers.{vertex, twice, face}
 use Rattle.format.specs.Simplex.{soundSimplex, listed, allListed}
 use Rattle.format.specs.Simplex as format
@@ -21,48 +23,69 @@ use Rattle.lookup.specs.Indexed.{Proper, Keyed, Indexed, Blank, Entered}
 use Rattle.lookup.specs.IndexLaws.{proper-none, proper-more, indexed-none, indexed-more}
 use Rattle.lookup.specs.Numbered.{simplicesIn}
 use Rattle.lookup.specs.NumberedLaws.{none-in, more-in}
-use Rattle.reading_lists.specs.Items.{refusalOf, facesJudged, ItemsTaken, Shaped}
-use Rattle.reading_lists.proofs.Facing.{faces-more}
+use Rattle.reading_lists.specs.Items.{refusalOf, lackOf, facesJudged, AllSound, ItemsTaken, Shaped}
+use Rattle.reading_lists.proofs.Facing.{faces-more, faces-same, paid-sound}
 
--- two checks in a row: the first that holds refuses, and where neither does the reading goes on
+-- The definition's checks in a row, of an item that is sound or not, repeated or not, and has its facets or not. Of one that is no
+-- edge 6 is not asked, so it must be known that such an item is sound where it has its facets, or where it stands before.
 module _ {A : Type 0} (place : ℕ) (next : Reading A) where
-  abbrev checked : Bool → Bool → Reading A
-  checked x y = refuseIf x vertex place (refuseIf y twice place next)
+  abbrev checked : (sound repeated paid : Bool) → Reading A
+  checked sound repeated paid = refuseIf (not sound) vertex place (refuseIf repeated twice place (refuseIf (not paid) face place next))
 
-  abbrev firstOf : Bool → Bool → ℕ
-  firstOf x y = cond x vertex (cond y twice 0)
+  abbrev firstOf : (edge sound repeated : Bool) → ℕ
+  firstOf edge sound repeated = cond (edge && not sound) vertex (cond repeated twice 0)
 
-  checked-refused : (x y : Bool) → (firstOf x y ≡ 0 → ⊥) → checked x y ≡ refused (firstOf x y) place
-  checked-refused true y h = refl
-  checked-refused false true h = refl
-  checked-refused false false h = absurd (h refl)
+  checked-refused : (edge sound repeated paid : Bool) → (firstOf edge sound repeated ≡ 0 → ⊥) → (edge ≡ false → repeated ≡ true → sound ≡ true)
+      → checked sound repeated paid ≡ refused (firstOf edge sound repeated) place
+  checked-refused true false repeated paid h k = refl
+  checked-refused true true true paid h k = refl
+  checked-refused true true false paid h k = absurd (h refl)
+  checked-refused false true true paid h k = refl
+  checked-refused false true false paid h k = absurd (h refl)
+  checked-refused false false true paid h k = absurd (false≢true (k refl refl))
+  checked-refused false false false paid h k = absurd (h refl)
 
-  checked-passed : (x y : Bool) → firstOf x y ≡ 0 → (checked x y ≡ next) × (y ≡ false)
-  checked-passed true y h = absurd (omega arith)
-  checked-passed false true h = absurd (omega arith)
-  checked-passed false false h = (refl, refl)
+  checked-passed : (edge sound repeated paid : Bool) → firstOf edge sound repeated ≡ 0 → (edge ≡ false → paid ≡ true → sound ≡ true)
+      → (checked sound repeated paid ≡ refuseIf (not paid) (cond sound face vertex) place next) × (repeated ≡ false)
+  checked-passed true false repeated paid h k = absurd (omega arith)
+  checked-passed true true true paid h k = absurd (omega arith)
+  checked-passed true true false paid h k = (refl, refl)
+  checked-passed false true true paid h k = absurd (omega arith)
+  checked-passed false true false paid h k = (refl, refl)
+  checked-passed false false true paid h k = absurd (omega arith)
+  checked-passed false false false true h k = absurd (false≢true (k refl refl))
+  checked-passed false false false false h k = (refl, refl)
 
 module _ (width v : ℕ) (faces : List format.Simplex) (at : ℕ) (before : List format.Simplex) (s : format.Simplex) (rest : List format.Simplex) where
-  item-refused : (refusalOf v before s ≡ 0 → ⊥) → readItems width v faces at before (s ∷ rest) ≡ refused (refusalOf v before s) at
+  item-refused : (refusalOf width v before s ≡ 0 → ⊥) → (leb width 2 ≡ false → listed s before ≡ true → soundSimplex v s ≡ true)
+      → readItems width v faces at before (s ∷ rest) ≡ refused (refusalOf width v before s) at
   unfolding readItems refusalOf
-  item-refused h = checked-refused at _ (not (soundSimplex v s)) (listed s before) h
+  item-refused h k =
+      checked-refused at _ (leb width 2) (soundSimplex v s) (listed s before) (allListed (owedFacets width s) faces) h k
 
-  -- what 6 and 7 let through is new, and left to rule 8
-  item-passed : refusalOf v before s ≡ 0
+  -- what is taken is new, and left to rule 8
+  item-passed : refusalOf width v before s ≡ 0 → (leb width 2 ≡ false → allListed (owedFacets width s) faces ≡ true → soundSimplex v s ≡ true)
       → (readItems width v faces at before (s ∷ rest)
-      ≡ refuseIf (not (allListed (owedFacets width s) faces)) face at (readItems width v faces (at + width) (before ++ (s ∷ [])) rest))
+      ≡ refuseIf (not (allListed (owedFacets width s) faces)) (lackOf v s) at (readItems width v faces (at + width) (before ++ (s ∷ [])) rest))
       × (listed s before ≡ false)
-  unfolding readItems refusalOf
-  item-passed h = checked-passed at _ (not (soundSimplex v s)) (listed s before) h
+  unfolding readItems refusalOf lackOf
+  item-passed h k =
+      checked-passed at _ (leb width 2) (soundSimplex v s) (listed s before) (allListed (owedFacets width s) faces) h k
+
+-- no simplex of no faces is unsound
+none-listed : (v : ℕ) → AllSound v []
+unfolding listed
+none-listed v f e = absurd (false≢true e)
 
 -- The items up to `at` are entered and not yet judged by 8; the rest is still to be read.
 pub record Taking (p : List ℕ) (base v width count at : ℕ) (keys₀ first₀ next₀ keys first next : List ℕ) : Type 0 where
   pub taken : width * count ≡ at
   pub within : at ≤ length p
-  pub rest : (faces : List format.Simplex)
+  pub rest : (faces : List format.Simplex) → AllSound v faces
       → readItems width v faces base [] (itemsOf width p)
-      ≡ facesJudged width faces base (simplicesIn width keys count)
+      ≡ facesJudged width v faces base (simplicesIn width keys count)
       (readItems width v faces (base + at) (simplicesIn width keys count) (itemsOf width (drop at p)))
+  pub own : (i : ℕ) → i < count → getD (simplicesIn width keys count) i [] ≡ take width (drop (width * i) p)
   pub proper : Proper width (simplicesIn width keys count)
   pub indexed : Indexed (simplicesIn width keys count) keys first next count
   pub blank : Blank keys₀ first₀ next₀
@@ -77,7 +100,8 @@ module _ {p : List ℕ} {base v width : ℕ} where
       record {
         taken = mul-zero width;
         within = omega arith;
-        rest = λ faces. rw (add-zero, none-in width keys);
+        rest = λ faces sound. rw (add-zero, none-in width keys);
+        own = λ i lt. absurd (omega arith);
         proper = subst (Proper width) (sym (none-in width keys)) (proper-none width);
         indexed = subst (λ (l : List format.Simplex). Indexed l keys first next 0) (sym (none-in width keys)) (indexed-none (blank .none));
         blank = blank;
@@ -95,8 +119,9 @@ module _ {p : List ℕ} {base v width : ℕ} where
     pub taking-end : length p - at < width → ItemsTaken p base v width keys first next (record { verdict = Fine; count = count })
     unfolding readItems
     taking-end short = record {
-      reads = λ faces.
-          t .rest faces ∙ rw (items-none width (drop at p) (rw (length-drop at p) short));
+      reads = λ faces sound.
+          t .rest faces sound ∙ rw (items-none width (drop at p) (rw (length-drop at p) short));
+      own = t .own;
       proper = t .proper;
       indexed = t .indexed;
       within = omega (arith, t .taken, t .within);
@@ -128,17 +153,19 @@ module _ {p : List ℕ} {base v width : ℕ} where
       item-wide : length s ≡ width
       item-wide = length-part p at width (omega (arith, t .within))
 
-      module _ {r : ℕ} (judged : (before : List format.Simplex) → Proper width before → Keyed before keys count → r ≡ refusalOf v before s) where
-        number-is : r ≡ refusalOf v l s
+      module _ {r : ℕ} (judged : (before : List format.Simplex) → Proper width before → Keyed before keys count → r ≡ refusalOf width v before s) where
+        number-is : r ≡ refusalOf width v l s
         number-is = judged l (t .proper) (t .indexed .keyed)
 
         pub taking-refused : (r ≡ 0 → ⊥) → ItemsTaken p base v width keys first next (record { verdict = Refused r (base + at); count = count })
         taking-refused some = record {
-          reads = λ faces.
-              t .rest faces ∙ ap (facesJudged width faces base l)
-              (ap (readItems width v faces (base + at) l) next-item
+          reads = λ faces sound.
+              t .rest faces sound ∙ faces-same width v faces base l _ _ (λ paid.
+              ap (readItems width v faces (base + at) l) next-item
               ∙ item-refused width v faces (base + at) l s _ (λ z. some (number-is ∙ z))
+              (λ wide again. paid-sound width v faces sound s item-wide wide (paid s again))
               ∙ ap (λ (k : ℕ). refused k (base + at)) (sym number-is));
+          own = t .own;
           proper = t .proper;
           indexed = t .indexed;
           within = omega (arith, t .taken, t .within);
@@ -151,12 +178,13 @@ module _ {p : List ℕ} {base v width : ℕ} where
             record {
               taken = rw (mul-add, mul-one, t .taken);
               within = omega (arith, t .within, shape);
-              rest = λ faces.
-                  t .rest faces ∙ ap (facesJudged width faces base l)
-                  (ap (readItems width v faces (base + at) l) next-item ∙ passed faces .0
-                  ∙ ap (λ (a : ℕ). refuseIf (not (allListed (owedFacets width s) faces)) face a (behind faces)) place)
-                  ∙ sym (faces-more width faces base l s (behind faces)) ∙ rw (grown, add-assoc);
-              proper = subst (Proper width) (sym grown) (proper-more l s (t .proper) item-wide (passed [] .1));
+              rest = λ faces sound.
+                  t .rest faces sound ∙ ap (facesJudged width v faces base l)
+                  (ap (readItems width v faces (base + at) l) next-item ∙ passed faces sound .0
+                  ∙ ap (λ (a : ℕ). refuseIf (not (allListed (owedFacets width s) faces)) (lackOf v s) a (behind faces)) place)
+                  ∙ sym (faces-more width v faces base l s (behind faces)) ∙ rw (grown, add-assoc);
+              own = λ i lt. ap (λ (l : List format.Simplex). getD l i []) grown ∙ own-more i lt;
+              proper = subst (Proper width) (sym grown) (proper-more l s (t .proper) item-wide (passed [] (none-listed v) .1));
               indexed = subst₂ (λ (l : List format.Simplex) (n : ℕ). Indexed l keys′ first′ next′ n) (sym grown) (sym (add-one count))
                   (indexed-more l s (t .indexed) keys-room entered);
               blank = t .blank;
@@ -171,7 +199,20 @@ module _ {p : List ℕ} {base v width : ℕ} where
             place : base + at ≡ base + width * length l
             place = ap (λ (a : ℕ). base + a) (sym (t .taken) ∙ ap (λ (n : ℕ). width * n) (t .indexed .keyed .count))
 
-            passed : (faces : List format.Simplex)
+            long : length l ≡ count
+            long = sym (t .indexed .keyed .count)
+
+            own-more : (i : ℕ) → i < count + 1 → getD (l ++ (s ∷ [])) i [] ≡ take width (drop (width * i) p)
+            own-more i lt = elim (ℕ-discrete i count) [
+              | yes e ↦ ap (λ (n : ℕ). getD (l ++ (s ∷ [])) n []) (e ∙ sym long)
+                  ∙ getD-append-seam l s [] []
+                  ∙ ap (λ (a : ℕ). take width (drop a p)) (sym (t .taken) ∙ ap (λ (n : ℕ). width * n) (sym e))
+              | no n ↦ List·getD-append l (s ∷ []) [] i (omega (arith, long)) ∙ t .own i (omega arith)
+            ]
+
+            passed : (faces : List format.Simplex) → AllSound v faces
                 → (readItems width v faces (base + at) l (s ∷ itemsOf width (drop (at + width) p))
-                ≡ refuseIf (not (allListed (owedFacets width s) faces)) face (base + at) (behind faces)) × (listed s l ≡ false)
-            passed faces = item-passed width v faces (base + at) l s _ (sym number-is ∙ none)
+                ≡ refuseIf (not (allListed (owedFacets width s) faces)) (lackOf v s) (base + at) (behind faces)) × (listed s l ≡ false)
+            passed faces sound =
+                item-passed width v faces (base + at) l s _ (sym number-is ∙ none)
+                (λ wide paid. paid-sound width v faces sound s item-wide wide paid)

@@ -1,10 +1,12 @@
--- The judgement of the items of a list: 6 and 7 one by one, then 8 over those that were taken; and what reading a whole list
--- comes to.
+-- The judgement of the items of a list: 7, and of edges 6, one by one, then 8 over those that were taken; and what reading a
+-- whole list comes to. A simplex whose facets are all listed is sound, since they are, so 6 is asked of one that is no edge only
+-- where it lacks a facet.
 use Prim.Native.Nat.{ℕ, _+_, _-_, _*_, _^_, _≤_, _<_}
 use mathlib.Core.Path.{_≡_}
-use mathlib.Core.Bool.{not, cond}
+use mathlib.Core.Bool.{Bool, true, not, cond, _&&_}
 use mathlib.Core.List.{List, [], _∷_}
-use lib.ListN.{length}
+use lib.ListN.{length, getD, take, drop}
+use lib.Dec.{leb}
 use Rattle.format.specs.Numbers.{vertex, twice, face}
 use Rattle.format.specs.Simplex.{Simplex, soundSimplex, listed, allListed}
 use Rattle.format.specs.Reading.{Reading, refuseIf, owedFacets, itemsOf, readItems}
@@ -15,19 +17,32 @@ use Rattle.lookup.specs.Numbered.{simplicesIn}
 use Rattle.lookup.specs.Sides.{Sided}
 use Rattle.reading_lists.specs.declared.ItemsRead.{ItemsRead}
 
--- the first of 6 and 7 that refuses an item, behind the items `before`; 0 where neither does
-unfoldable pub refusalOf : (v : ℕ) (before : List Simplex) → Simplex → ℕ
-refusalOf v before s = cond (not (soundSimplex v s)) vertex (cond (listed s before) twice 0)
+-- an edge that breaks rule 6
+abbrev pub unsoundEdge : (width v : ℕ) → Simplex → Bool
+unsoundEdge width v s = leb width 2 && not (soundSimplex v s)
 
--- Rule 8 alone, over items of which the first stands at `at`: the first that lacks a facet it owes is refused, and where none
--- does, the reading is the one behind them.
-unfoldable pub facesJudged : (width : ℕ) (faces : List Simplex) (at : ℕ) → List Simplex → Reading (List Simplex) → Reading (List Simplex)
-facesJudged width faces at [] behind = behind
-facesJudged width faces at (s ∷ rest) behind =
-    refuseIf (not (allListed (owedFacets width s) faces)) face at (facesJudged width faces (at + width) rest behind)
+-- the first of 6, asked of edges, and 7 that refuses an item, behind the items `before`; 0 where neither does
+unfoldable pub refusalOf : (width v : ℕ) (before : List Simplex) → Simplex → ℕ
+refusalOf width v before s = cond (unsoundEdge width v s) vertex (cond (listed s before) twice 0)
 
--- the list of the facets, of which the first m keys are the numbers
-pub record FacesIn (width : ℕ) (faces : List Simplex) (keys : List ℕ) (m : ℕ) : Type 0 where
+-- what an item that lacks a facet is refused with: 6 comes before 8
+unfoldable pub lackOf : ℕ → Simplex → ℕ
+lackOf v s = cond (soundSimplex v s) face vertex
+
+-- Rule 8 over items of which the first stands at `at`: the first that lacks a facet it owes is refused, and where none does, the
+-- reading is the one behind them.
+unfoldable pub facesJudged : (width v : ℕ) (faces : List Simplex) (at : ℕ) → List Simplex → Reading (List Simplex) → Reading (List Simplex)
+facesJudged width v faces at [] behind = behind
+facesJudged width v faces at (s ∷ rest) behind =
+    refuseIf (not (allListed (owedFacets width s) faces)) (lackOf v s) at (facesJudged width v faces (at + width) rest behind)
+
+-- each listed simplex is sound
+abbrev pub AllSound : ℕ → List Simplex → Type 0
+AllSound v faces = (f : Simplex) → listed f faces ≡ true → soundSimplex v f ≡ true
+
+-- the list of the facets, all sound, of which the first m keys are the numbers
+pub record FacesIn (width v : ℕ) (faces : List Simplex) (keys : List ℕ) (m : ℕ) : Type 0 where
+  pub sound : AllSound v faces
   pub proper : Proper (width - 1) faces
   pub keyed : Keyed faces keys m
 
@@ -43,11 +58,12 @@ pub record Shaped (p : List ℕ) (base width : ℕ) : Type 0 where
   pub fits : length p ≤ width * 512
   pub places : base + length p < 2 ^ 64
 
--- What taking the items by 6 and 7 leaves: an index of the items taken. The definition's reading, over any faces, is then what
--- rule 8 says of them, from the first on, and where it refuses none of them, what 6 and 7 told.
+-- What taking the items leaves: an index of them. The definition's reading, over any sound faces, is then what rule 8 says of the
+-- items taken, from the first on, and where it refuses none of them, what was told when they were taken.
 pub record ItemsTaken (p : List ℕ) (base v width : ℕ) (keys first next : List ℕ) (r : ItemsRead) : Type 0 where
-  pub reads : (faces : List Simplex)
-      → readItems width v faces base [] (itemsOf width p) ≡ facesJudged width faces base (simplicesIn width keys (r .count)) (itemsRead width keys r)
+  pub reads : (faces : List Simplex) → AllSound v faces
+      → readItems width v faces base [] (itemsOf width p) ≡ facesJudged width v faces base (simplicesIn width keys (r .count)) (itemsRead width keys r)
+  pub own : (i : ℕ) → i < r .count → getD (simplicesIn width keys (r .count)) i [] ≡ take width (drop (width * i) p)
   pub proper : Proper width (simplicesIn width keys (r .count))
   pub indexed : Indexed (simplicesIn width keys (r .count)) keys first next (r .count)
   pub within : width * r .count ≤ length p
@@ -55,8 +71,8 @@ pub record ItemsTaken (p : List ℕ) (base v width : ℕ) (keys first next : Lis
 -- What reading a list leaves: the definition's reading, over whatever list the faces' keys are of, an index of the items
 -- entered, and, where none is refused and they are no edges, their sides.
 pub record ItemsTold (p : List ℕ) (base v width : ℕ) (faceKeys : List ℕ) (m : ℕ) (keys first next sides : List ℕ) (r : ItemsRead) : Type 0 where
-  pub reads : (faces : List Simplex) → FacesIn width faces faceKeys m → itemsRead width keys r ≡ readItems width v faces base [] (itemsOf width p)
+  pub reads : (faces : List Simplex) → FacesIn width v faces faceKeys m → itemsRead width keys r ≡ readItems width v faces base [] (itemsOf width p)
   pub indexed : Indexed (simplicesIn width keys (r .count)) keys first next (r .count)
   pub few : r .count ≤ 512
-  pub sided : r .verdict ≡ Fine → 2 < width → (faces : List Simplex) → FacesIn width faces faceKeys m
+  pub sided : r .verdict ≡ Fine → 2 < width → (faces : List Simplex) → FacesIn width v faces faceKeys m
       → Sided faces (simplicesIn width keys (r .count)) sides (r .count)

@@ -9,7 +9,7 @@ ghost use Rattle.format.specs.Simplex.{soundSimplex, listed};
 ghost use Rattle.format.specs.Simplex as format;
 ghost use Rattle.keys.specs.Chained.{Chained};
 ghost use Rattle.lookup.specs.Indexed.{NumberOf, Keyed, Proper, Blank};
-ghost use Rattle.reading_lists.specs.Items.{refusalOf, Shaped, ItemsTaken, ItemsTold};
+ghost use Rattle.reading_lists.specs.Items.{refusalOf, Shaped, ItemsTaken, ItemsTold, unsoundEdge, lackOf};
 use lists::Found;
 use lists::Verdict;
 
@@ -76,7 +76,31 @@ fn entered(keys: &[u64], first: &[u16], next: &[u16], n: usize, number: u64) -> 
     }
 }
 
-// The item at a place, which has a number, behind the n items entered: the first of 6 vertex and 7 twice that refuses it, or 0.
+// Whether an edge breaks rule 6. The other simplices are sound where their facets are listed, so they are asked only where one
+// is missing.
+fn unsound_edge(p: &[u8], at: usize, width: usize, v: u16) -> bool
+    requires { ⌜ at + width ≤ length (now p) ⌝ }
+    ensures { λ r. ⌜ r ≡ unsoundEdge width v (take width (drop at (now (p .entry)))) ⌝ }
+{
+    if 2 < width {
+        return false;
+    }
+    !sound_at(p, at, width, v)
+}
+
+// What an item that lacks a facet is refused with: 6 vertex comes before 8 face.
+fn lack_at(p: &[u8], at: usize, width: usize, v: u16) -> u16
+    requires { ⌜ at + width ≤ length (now p) ⌝ }
+    ensures { λ r. ⌜ r ≡ lackOf v (take width (drop at (now (p .entry)))) ⌝ }
+{
+    if sound_at(p, at, width, v) {
+        return Verdict::FACE;
+    }
+    Verdict::VERTEX
+}
+
+// The item at a place, which has a number, behind the n items entered: the first of 6 vertex, asked of edges, and 7 twice that
+// refuses it, or 0.
 fn judge(
     keys: &[u64],
     first: &[u16],
@@ -91,10 +115,10 @@ fn judge(
     requires { ⌜ Chained (now keys) (now first) (now next) n ⌝ }
     requires { ⌜ at + width ≤ length (now p) ⌝ }
     requires { ⌜ NumberOf (take width (drop at (now p))) number ⌝ }
-    ensures { λ r. ⌜ ((before : List format.Simplex) → Proper width before → Keyed before (now (keys .entry)) n → r ≡ refusalOf v before (take width (drop at (now (p .entry))))) ⌝ }
+    ensures { λ r. ⌜ ((before : List format.Simplex) → Proper width before → Keyed before (now (keys .entry)) n → r ≡ refusalOf width v before (take width (drop at (now (p .entry))))) ⌝ }
 {
     let repeated = entered(keys, first, next, n, number);
-    let unsound = !sound_at(p, at, width, v);
+    let unsound = unsound_edge(p, at, width, v);
     if unsound {
         return Verdict::VERTEX;
     }
@@ -104,8 +128,8 @@ fn judge(
     0
 }
 
-// The items of the payload `p`, which starts at `base` of the file, up to the first that 6 vertex or 7 twice refuses: their
-// number, and that refusal with its place. They are entered, so their numbers stand in the keys.
+// The items of the payload `p`, which starts at `base` of the file, up to the first that `judge` refuses: their number, and that
+// refusal with its place. They are entered, so their numbers stand in the keys.
 fn take_items(
     p: &[u8],
     base: usize,
@@ -141,7 +165,7 @@ fn take_items(
 }
 
 // The items of the payload `p`, which starts at `base` of the file, over the m faces entered: their number, or the first
-// refusal with its place. Those that 6 and 7 let through are entered, and where nothing is refused their sides are kept. Rule 8
+// refusal with its place. Those that `judge` lets through are entered, and where nothing is refused their sides are kept. Rule 8
 // asks for faces and not for other items, so it can wait until all are taken: two short loops run faster than one long one. An
 // edge's facets are vertices, which 6 has settled.
 pub fn read_items(
@@ -180,8 +204,10 @@ pub fn read_items(
         sides,
     );
     if found < count {
+        let lacking = width * found;
+        let refusal = lack_at(p, lacking, width, v);
         return ItemsRead {
-            verdict: Verdict::Refused(Verdict::FACE, base + width * found),
+            verdict: Verdict::Refused(refusal, base + lacking),
             count,
         };
     }

@@ -27,8 +27,8 @@ listRead kind keys r = readingOf (r .verdict) (record { list = simplicesIn kind 
 -- What reading a list record leaves: the definition's reading, over whatever list the faces' keys are of, an index of the
 -- simplices entered, and, where none is refused and they are no edges, their sides.
 pub record ListTold (b : List ℕ) (at kind v : ℕ) (faceKeys : List ℕ) (m : ℕ) (keys first next sides : List ℕ) (r : ListRead) : Type 0 where
-  pub reads : (faces : List Simplex) → FacesIn kind faces faceKeys m → listRead kind keys r ≡ readList small b at kind v faces
+  pub reads : (faces : List Simplex) → FacesIn kind v faces faceKeys m → listRead kind keys r ≡ readList small b at kind v faces
   pub indexed : Indexed (simplicesIn kind keys (r .count)) keys first next (r .count)
   pub few : r .count ≤ 512
-  pub sided : r .verdict ≡ Fine → 2 < kind → (faces : List Simplex) → FacesIn kind faces faceKeys m
+  pub sided : r .verdict ≡ Fine → 2 < kind → (faces : List Simplex) → FacesIn kind v faces faceKeys m
       → Sided faces (simplicesIn kind keys (r .count)) sides (r .count)

@@ -37,7 +37,7 @@ module _ (c : tie.After-read-list) where
   edge-list = simplicesIn 2 edge-keys (edges .count)
 
   edges-told : listRead 2 edge-keys edges ≡ readList small job (start .args .at) 2 (start .args .v) []
-  edges-told = c .read-list .ensures .reads [] (no-faces _)
+  edges-told = c .read-list .ensures .reads [] (no-faces _ _)
 
 -- and none of them was refused
 module _ (c : tie.After-enum-told) where

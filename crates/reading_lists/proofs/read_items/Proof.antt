@@ -1,9 +1,11 @@
--- `read_items` meets its contract: the items are taken by 6 and 7, and where they are no edges the first that lacks a facet is
+-- `read_items` meets its contract: the items are taken, and where they are no edges the first that lacks a facet is
 -- refused before anything that stands behind it.
 -- Assumes nothing.
-use Prim.Native.Nat.{_+_, _*_, _^_, _<_}
+use Prim.Native.Nat.{_+_, _*_, _≤_}
+use denote.Ref.{now}
+use lib.ListN.{length}
 use native.Mathlib.Omega.{arith}
-use Rattle.reading_lists.proofs.Facing.{few, place-fits, edges-read, lacking-read, whole-read}
+use Rattle.reading_lists.proofs.Facing.{few, place-within, edges-read, lacking-read, whole-read}
 use borrow.Author.Needs.{needs}
 use Rattle.reading_lists.proofs.read_items.Statement.{statement}
 use Rattle.reading_lists.proofs.read_items.Tie as tie
@@ -56,18 +58,22 @@ module _ (c : tie.After-slice-known8) where
   abbrev others : tie.Else1
   others = looked .before .before .before
 
--- the place of the first item that lacks a facet is a number of the machine
-fits : (c : tie.Then2) → let known = others (c .before) .before in
-    start known .args .base + start known .args .width * looked (c .before) .find-sides .result < 2 ^ 64
-fits c =
-    let known = others (c .before) .before in
-    place-fits (taken known .take-items .ensures) (start known .pre .0) (c .if2 .taken)
+-- the first item that lacks a facet lies within the payload, all of whose places are numbers of the machine
+module _ (c : tie.Then2) where
+  abbrev began : tie.Start
+  began = start (others (c .before) .before)
 
-mul-t27 : tie.Need-mul-t27
-mul-t27 c = record { fits = omega (arith, fits c) }
+  inside : began .args .width * looked (c .before) .find-sides .result + began .args .width ≤ length (now (began .args .p))
+  inside = place-within (taken (others (c .before) .before) .take-items .ensures) (began .pre .0) (c .if2 .taken)
 
-add-t28 : tie.Need-add-t28
-add-t28 c = record { fits = omega (arith, fits c) }
+mul-lacking : tie.Need-mul-lacking
+mul-lacking c = record { fits = omega (arith, inside c, began c .pre .0 .places) }
+
+lack-at-requires : tie.Need-lack-at-requires
+lack-at-requires c κs = inside c
+
+add-t29 : tie.Need-add-t29
+add-t29 c = record { fits = omega (arith, inside (c .before), began (c .before) .pre .0 .places) }
 
 same-length-4 : tie.Need-same-length-4
 same-length-4 c = search needs
@@ -83,9 +89,10 @@ same-length-7 c = search needs
 
 returns-2 : tie.Need-returns-2
 returns-2 c =
-    let known = others (c .before) .before in
-    lacking-read (taken known .take-items .ensures) (start known .pre .0) (others (c .before) .if1 .left)
-    (looked (c .before) .find-sides .ensures) (c .if2 .taken)
+    let lacks = c .before in
+    let known = others (lacks .before) .before in
+    lacking-read (taken known .take-items .ensures) (start known .pre .0) (others (lacks .before) .if1 .left)
+    (looked (lacks .before) .find-sides .ensures) (lacks .if2 .taken) (c .lack-at .ensures)
 
 same-length-8 : tie.Need-same-length-8
 same-length-8 c = search needs
@@ -115,8 +122,9 @@ read-items-spec =
     same-length-3
     returns
     find-sides-requires
-    mul-t27
-    add-t28
+    mul-lacking
+    lack-at-requires
+    add-t29
     same-length-4
     same-length-5
     same-length-6
