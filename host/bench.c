@@ -106,24 +106,22 @@ static void insist_on_one_answer(const struct answer *a, const struct answer *b,
     }
 }
 
-static struct times measure(const struct shape *shape, unsigned rounds)
+static void measure(const struct shape *shape, unsigned rounds, struct times *best)
 {
     static struct draft_job job;
-    struct times best = {1e9, 1e9, 1e9, 1e9, 1e9, 1e9};
     shape_job(shape, &job);
     for (unsigned i = 0; i < rounds; i++) {
         struct answer by_library, by_plain;
         bool bounds, bounds_in_whole;
-        keep_best(&best.library, time_library(&job, &by_library));
-        keep_best(&best.writing, time_writing(&job));
-        keep_best(&best.plain, time_plain(&job, &by_plain));
-        keep_best(&best.least, time_least(&job));
-        keep_best(&best.phat, time_phat(shape, PHAT_ASKED, &bounds));
-        keep_best(&best.whole, time_phat(shape, PHAT_WHOLE, &bounds_in_whole));
+        keep_best(&best->library, time_library(&job, &by_library));
+        keep_best(&best->writing, time_writing(&job));
+        keep_best(&best->plain, time_plain(&job, &by_plain));
+        keep_best(&best->least, time_least(&job));
+        keep_best(&best->phat, time_phat(shape, PHAT_ASKED, &bounds));
+        keep_best(&best->whole, time_phat(shape, PHAT_WHOLE, &bounds_in_whole));
         insist_on_one_answer(&by_library, &by_plain, bounds);
         insist_on_one_answer(&by_library, &by_plain, bounds_in_whole);
     }
-    return best;
 }
 
 /* ---- the table ---- */
@@ -157,21 +155,46 @@ static void print_heading(unsigned rounds)
            "least/PHAT", "growth");
 }
 
-static void print_answer_table(unsigned rounds)
+enum { ROWS_MOST = 64 };
+
+static struct times best_of_row[ROWS_MOST];
+
+/* Goes through all rows: only surfaces have one, nothing else is anything to PHAT. */
+static void each_row(void (*row)(unsigned number, const char *name, const struct shape *shape,
+                                 unsigned size, unsigned rounds),
+                     unsigned rounds)
 {
     static struct shape shape;
-    print_heading(rounds);
-    for (unsigned i = 0; i < bench_job_count; i++) {
-        struct times before = {0, 0, 0, 0, 0, 0};
-        if (bench_jobs[i].make_shape == NULL)
-            continue; /* no surface, so nothing for PHAT */
-        for (unsigned size = 0; size < SIZES; size++) {
+    unsigned number = 0;
+    for (unsigned i = 0; i < bench_job_count; i++)
+        for (unsigned size = 0; size < SIZES && bench_jobs[i].make_shape != NULL; size++) {
             bench_jobs[i].make_shape(&shape, size);
-            struct times t = measure(&shape, rounds);
-            print_row(bench_jobs[i].name, &shape, t, size > 0 ? &before : NULL);
-            before = t;
+            row(number++, bench_jobs[i].name, &shape, size, rounds);
         }
-    }
+}
+
+static void measure_row(unsigned number, const char *name, const struct shape *shape, unsigned size,
+                        unsigned rounds)
+{
+    (void)name, (void)size;
+    measure(shape, rounds, &best_of_row[number]);
+}
+
+static void print_best(unsigned number, const char *name, const struct shape *shape, unsigned size,
+                       unsigned rounds)
+{
+    (void)rounds;
+    print_row(name, shape, best_of_row[number], size > 0 ? &best_of_row[number - 1] : NULL);
+}
+
+static void print_answer_table(unsigned rounds)
+{
+    for (unsigned i = 0; i < ROWS_MOST; i++)
+        best_of_row[i] = (struct times){1e9, 1e9, 1e9, 1e9, 1e9, 1e9};
+    print_heading(rounds);
+    for (unsigned sweep = 0; sweep < SWEEPS; sweep++)
+        each_row(measure_row, rounds_of_sweep(rounds, sweep));
+    each_row(print_best, 0);
 }
 
 int main(int argc, char **argv)

@@ -15,3 +15,8 @@ void keep_best(double *best, double seconds)
     if (seconds < *best)
         *best = seconds;
 }
+
+unsigned rounds_of_sweep(unsigned rounds, unsigned sweep)
+{
+    return (rounds + SWEEPS - 1 - sweep) / SWEEPS;
+}

@@ -162,22 +162,23 @@ static const struct {
     {"full, walk, edits", 0},
 };
 
+enum { ROWS = sizeof rows / sizeof rows[0] };
+
 struct times {
     double library, checker, plain;
 };
 
-static struct times measure(const struct draft_job *draft, unsigned rounds, struct job *job)
+static void measure(const struct draft_job *draft, unsigned rounds, struct job *job,
+                    struct times *best)
 {
     static struct plain_job plain_job;
-    struct times best = {1e9, 1e9, 1e9};
     for (unsigned i = 0; i < rounds; i++) {
         struct verdict by_checker, by_plain;
-        keep_best(&best.library, time_library(draft));
-        keep_best(&best.checker, time_checker(draft, job, &by_checker));
-        keep_best(&best.plain, time_plain(draft, &plain_job, &by_plain));
+        keep_best(&best->library, time_library(draft));
+        keep_best(&best->checker, time_checker(draft, job, &by_checker));
+        keep_best(&best->plain, time_plain(draft, &plain_job, &by_plain));
         insist_on_one_reading(job, by_checker, &plain_job, by_plain);
     }
-    return best;
 }
 
 /* ---- the table ---- */
@@ -205,13 +206,18 @@ static void print_row(const char *name, const struct job *job, struct times t)
 void print_reading_table(unsigned rounds)
 {
     static struct draft_job draft;
-    static struct job job;
+    static struct job job[ROWS];
+    struct times best[ROWS];
     compare_on_random_jobs();
     compare_above_limits();
     print_heading(rounds);
-    for (unsigned i = 0; i < sizeof rows / sizeof rows[0]; i++) {
-        bench_job_draft(bench_job_named(rows[i].name), rows[i].size, &draft);
-        struct times t = measure(&draft, rounds, &job);
-        print_row(rows[i].name, &job, t);
-    }
+    for (unsigned i = 0; i < ROWS; i++)
+        best[i] = (struct times){1e9, 1e9, 1e9};
+    for (unsigned sweep = 0; sweep < SWEEPS; sweep++)
+        for (unsigned i = 0; i < ROWS; i++) {
+            bench_job_draft(bench_job_named(rows[i].name), rows[i].size, &draft);
+            measure(&draft, rounds_of_sweep(rounds, sweep), &job[i], &best[i]);
+        }
+    for (unsigned i = 0; i < ROWS; i++)
+        print_row(rows[i].name, &job[i], best[i]);
 }
