@@ -101,9 +101,9 @@ impl ListsRead {
     }
 }
 
-// The edges, the triangles over them and the tetrahedra over those. An edge's facets are vertices, which no list holds, so its
-// faces are a list of which nothing is entered, and its number says its sides. The links of the edges stay, for a walk; those of
-// triangles serve the look-up of facets and doubles alone, and those of tetrahedra that of doubles.
+// The edges, the triangles over them and the tetrahedra over those. An edge's facets are vertices, which no list holds, and its
+// number says its sides. The links of the edges stay, for a walk; those of triangles serve the look-up of facets and doubles
+// alone, and those of tetrahedra that of doubles.
 fn read_lists(
     job: &[u8],
     at: usize,
@@ -120,27 +120,23 @@ fn read_lists(
     requires { ⌜ Blank (now «e_keys») (now «e_first») (now «e_next») ⌝ }
     ensures { λ r. ⌜ ListsTold (now (job .entry)) at v (now («e_keys» .exit)) (now («e_first» .exit)) (now («e_next» .exit)) (now («t_keys» .exit)) (now («s_keys» .exit)) (now («t_sides» .exit)) (now («s_sides» .exit)) r ⌝ }
 {
-    let mut t_first = [0u16; BUCKETS];
-    let mut t_next = [0u16; SimplexList::LIMIT];
-    let e = stages::read_list(
-        job,
-        at,
-        SimplexList::EDGES,
-        v,
-        t_keys,
-        &t_first,
-        &t_next,
-        0,
-        e_keys,
-        e_first,
-        e_next,
-        s_sides,
-    );
+    let e = stages::read_list(job, at, SimplexList::EDGES, v, e_keys, e_first, e_next);
     let edges_verdict = e.verdict;
     if let Verdict::Refused(number, place) = edges_verdict {
         return ListsRead::refused(number, place);
     }
-    let t = stages::read_list(
+    let mut t_first = [0u16; BUCKETS];
+    let mut t_next = [0u16; SimplexList::LIMIT];
+    let t_taken = stages::read_list(
+        job,
+        e.next,
+        SimplexList::TRIANGLES,
+        v,
+        t_keys,
+        &mut t_first,
+        &mut t_next,
+    );
+    let t = stages::find_faces(
         job,
         e.next,
         SimplexList::TRIANGLES,
@@ -150,9 +146,8 @@ fn read_lists(
         e_next,
         e.count,
         t_keys,
-        &mut t_first,
-        &mut t_next,
         t_sides,
+        t_taken,
     );
     let triangles_verdict = t.verdict;
     if let Verdict::Refused(number, place) = triangles_verdict {
@@ -160,7 +155,16 @@ fn read_lists(
     }
     let mut s_first = [0u16; BUCKETS];
     let mut s_next = [0u16; SimplexList::LIMIT];
-    let s = stages::read_list(
+    let s_taken = stages::read_list(
+        job,
+        t.next,
+        SimplexList::TETRAHEDRA,
+        v,
+        s_keys,
+        &mut s_first,
+        &mut s_next,
+    );
+    let s = stages::find_faces(
         job,
         t.next,
         SimplexList::TETRAHEDRA,
@@ -170,9 +174,8 @@ fn read_lists(
         &t_next,
         t.count,
         s_keys,
-        &mut s_first,
-        &mut s_next,
         s_sides,
+        s_taken,
     );
     let verdict = s.verdict;
     ListsRead {

@@ -5,8 +5,8 @@ ghost use lib.Dec.{eqb};
 ghost use lib.ListN.{length};
 ghost use Rattle.keys.specs.Chained.{Chained, Linked, lastBelow};
 
-// How many buckets the keys are spread over: the largest prime below twice a list's limit. Of a mesh, whose numbers go up in
-// regular steps, few edges and triangles share one of a prime number of buckets.
+// How many buckets the keys are spread over: the largest prime below twice a list's limit. The numbers of a mesh go up in regular
+// steps, which a prime has no divisor in common with; what was measured is told in decision 15.
 pub const BUCKETS: usize = 1021;
 
 // One more than the place of a key among the first n, 0 where it is not there.

@@ -1,41 +1,36 @@
 -- Rule 8 over the items that were taken: where none lacks a facet it owes, what was told when they were taken stands, and the
 -- first that does is refused at its own place. So the rule may wait until all of them are taken.
-use Prim.Native.Nat.{ℕ, zero, suc, _+_, _-_, _*_, _^_, _≤_, _<_}
-use native.Mathlib.Nat.{mul-zero, mul-suc, mul-le-mul-left, le-of-mul-le-mul-left}
+use Prim.Native.Nat.{ℕ, zero, suc, _+_, _-_, _*_, _≤_, _<_}
+use native.Mathlib.Nat.{mul-zero, mul-suc}
 use native.Mathlib.Omega.{arith}
 use mathlib.Core.Path.{_≡_, refl, sym, ap, _∙_, subst}
 use mathlib.Core.Bool.{Bool, true, false, not, cond, _||_, false≢true}
 use mathlib.Core.List.{List, [], _∷_, _++_}
-use lib.ListN.{length, getD, take, drop}
+use lib.ListN.{length, getD}
 use lib.Dec.{leb}
 use borrow.Author.Tests.{le-leb, lt-leb, leb-false}
 use Rattle.format.specs.Simplex.{Simplex, soundSimplex, same, listed, allListed, facets}
 use Rattle.format.specs.Listed.{same-equal}
 use Rattle.format.specs.Reading.{Reading, refused, refuseIf, owedFacets}
-use Rattle.lists.specs.declared.Verdict.the-variants.{Refused}
-use Rattle.lookup.specs.Indexed.{Proper, Keyed}
-use Rattle.lookup.specs.Numbered.{simplicesIn}
-use Rattle.lookup.specs.Sides.{Sided, SidesTold}
-use Rattle.reading_lists.specs.Items.{lackOf, facesJudged, AllSound, FacesIn, Shaped, ItemsTaken, ItemsTold}
-use Rattle.reading_lists.specs.declared.ItemsRead.{ItemsRead}
+use Rattle.reading_lists.specs.Items.{lackOf, facesJudged, AllSound}
 use Rattle.reading_lists.proofs.Faced.{faced-sound}
 
 -- what rule 8 asks of an edge is nothing, and of the others each facet
-edge-owes-none : (width : ℕ) (s : Simplex) (faces : List Simplex) → width ≤ 2 → allListed (owedFacets width s) faces ≡ true
+pub edge-owes-none : (width : ℕ) (s : Simplex) (faces : List Simplex) → width ≤ 2 → allListed (owedFacets width s) faces ≡ true
 unfolding allListed
 edge-owes-none width s faces edge = rw (le-leb width 2 edge)
 
-others-owe : (width : ℕ) (s : Simplex) (faces : List Simplex) (b : Bool) → 2 < width → allListed (facets s) faces ≡ b
+pub others-owe : (width : ℕ) (s : Simplex) (faces : List Simplex) (b : Bool) → 2 < width → allListed (facets s) faces ≡ b
     → allListed (owedFacets width s) faces ≡ b
 others-owe width s faces b wide e = rw (lt-leb width 2 wide, e)
 
 module _ (width v : ℕ) (faces : List Simplex) where
   -- an item none of whose owed facets is missing
-  abbrev Paid : Simplex → Type 0
+  abbrev pub Paid : Simplex → Type 0
   Paid s = allListed (owedFacets width s) faces ≡ true
 
   -- rule 8 refuses none of the items, or the first that lacks a facet
-  faces-listed : (at : ℕ) (l : List Simplex) (behind : Reading (List Simplex)) → ((i : ℕ) → i < length l → Paid (getD l i []))
+  pub faces-listed : (at : ℕ) (l : List Simplex) (behind : Reading (List Simplex)) → ((i : ℕ) → i < length l → Paid (getD l i []))
       → facesJudged width v faces at l behind ≡ behind
   unfolding facesJudged
   faces-listed at [] behind paid = refl
@@ -43,7 +38,7 @@ module _ (width v : ℕ) (faces : List Simplex) where
       let first : Paid s = paid 0 (omega arith) in
       rw first (faces-listed (at + width) l behind (λ i lt. paid (suc i) (omega arith)))
 
-  first-lacks : (at : ℕ) (l : List Simplex) (behind : Reading (List Simplex)) (r : ℕ) → r < length l
+  pub first-lacks : (at : ℕ) (l : List Simplex) (behind : Reading (List Simplex)) (r : ℕ) → r < length l
       → ((i : ℕ) → i < r → Paid (getD l i [])) → allListed (owedFacets width (getD l r [])) faces ≡ false
       → facesJudged width v faces at l behind ≡ refused (lackOf v (getD l r [])) (at + width * r)
   unfolding facesJudged
@@ -93,55 +88,3 @@ module _ (width v : ℕ) (faces : List Simplex) where
   paid-sound sound s size wide p =
       let listed-all : allListed (facets s) faces ≡ true = subst (λ (b : Bool). allListed (cond b [] (facets s)) faces ≡ true) wide p in
       faced-sound v faces sound s (omega (arith, size, leb-false width 2 wide)) listed-all
-
--- THE TWO PASSES. The items are taken, and what is left to rule 8 is said by the look-up of their facets.
-module _ {p : List ℕ} {base v width : ℕ} {keys first next : List ℕ} {r : ItemsRead}
-    (taken : ItemsTaken p base v width keys first next r) (shape : Shaped p base width) where
-  -- no more bytes stand in the payload than a full list has
-  pub few : r .count ≤ 512
-  few = le-of-mul-le-mul-left {k = width} (omega (arith, taken .within, shape)) (omega (arith, shape))
-
-  -- an item that was taken lies within the payload
-  pub place-within : {i : ℕ} → i < r .count → width * i + width ≤ length p
-  place-within {i} lt = omega (arith, mul-le-mul-left width lt, mul-suc width i, taken .within)
-
-  pub edges-read : {faceKeys : List ℕ} {m : ℕ} {sides : List ℕ} → width ≤ 2 → ItemsTold p base v width faceKeys m keys first next sides r
-  edges-read edge = record {
-    reads = λ faces under. sym (taken .reads faces (under .sound) ∙ faces-listed width v faces base _ _ (λ i lt. edge-owes-none width _ faces edge));
-    indexed = taken .indexed;
-    few = few;
-    sided = λ fine wide. absurd (omega arith);
-  }
-
-  module _ (wide : 2 < width) {faceKeys : List ℕ} {m : ℕ} {sides : List ℕ} {found : ℕ}
-      (looked : (faces l : List Simplex) → Proper (width - 1) faces → Keyed faces faceKeys m → Proper width l → Keyed l keys (r .count)
-      → SidesTold faces l sides (r .count) found) where
-    told : (faces : List Simplex) → FacesIn width v faces faceKeys m → SidesTold faces (simplicesIn width keys (r .count)) sides (r .count) found
-    told faces under = looked faces _ (under .proper) (under .keyed) (taken .proper) (taken .indexed .keyed)
-
-    paid : (faces : List Simplex) → FacesIn width v faces faceKeys m → (i : ℕ) → i < found
-        → Paid width v faces (getD (simplicesIn width keys (r .count)) i [])
-    paid faces under i lt = others-owe width _ faces true wide (told faces under .listed i lt)
-
-    pub lacking-read : {refusal : ℕ} → found < r .count → refusal ≡ lackOf v (take width (drop (width * found) p))
-        → ItemsTold p base v width faceKeys m keys first next sides (record { verdict = Refused refusal (base + width * found); count = r .count })
-    lacking-read lt lack = record {
-      reads = λ faces under.
-          ap (λ (k : ℕ). refused k (base + width * found)) (lack ∙ ap (lackOf v) (sym (taken .own found lt))) ∙
-          sym (taken .reads faces (under .sound) ∙ first-lacks width v faces base _ _ found (omega (arith, taken .indexed .keyed .count)) (paid faces under)
-          (others-owe width _ faces false wide (told faces under .lacking lt)));
-      indexed = taken .indexed;
-      few = few;
-      sided = λ fine. let z : _≡_ {A = ℕ} 0 1 = cc in absurd (omega arith);
-    }
-
-    pub whole-read : r .count ≤ found → ItemsTold p base v width faceKeys m keys first next sides r
-    whole-read end = record {
-      reads = λ faces under.
-          sym (taken .reads faces (under .sound) ∙ faces-listed width v faces base _ _ (λ i lt. paid faces under i (omega (arith, taken .indexed .keyed .count))));
-      indexed = taken .indexed;
-      few = few;
-      sided = λ fine wide faces under.
-          let all : found ≡ r .count = omega (arith, told faces under .within) in
-          subst (Sided faces (simplicesIn width keys (r .count)) sides) all (told faces under .sided);
-    }

@@ -1,6 +1,5 @@
--- The judgement of the items of a list: 7, and of edges 6, one by one, then 8 over those that were taken; and what reading a
--- whole list comes to. A simplex whose facets are all listed is sound, since they are, so 6 is asked of one that is no edge only
--- where it lacks a facet.
+-- The judgement of the items of a list: 7, and of edges 6, one by one, then 8 over those that were taken. A simplex whose facets
+-- are all listed is sound, since they are, so 6 is asked of one that is no edge only where it lacks a facet.
 use Prim.Native.Nat.{ℕ, _+_, _-_, _*_, _^_, _≤_, _<_}
 use mathlib.Core.Path.{_≡_}
 use mathlib.Core.Bool.{Bool, true, not, cond, _&&_}
@@ -11,10 +10,8 @@ use Rattle.format.specs.Numbers.{vertex, twice, face}
 use Rattle.format.specs.Simplex.{Simplex, soundSimplex, listed, allListed}
 use Rattle.format.specs.Reading.{Reading, refuseIf, owedFacets, itemsOf, readItems}
 use Rattle.lists.specs.Verdicts.{readingOf}
-use Rattle.lists.specs.declared.Verdict.the-variants.{Fine}
 use Rattle.lookup.specs.Indexed.{Proper, Keyed, Indexed}
 use Rattle.lookup.specs.Numbered.{simplicesIn}
-use Rattle.lookup.specs.Sides.{Sided}
 use Rattle.reading_lists.specs.declared.ItemsRead.{ItemsRead}
 
 -- an edge that breaks rule 6
@@ -67,12 +64,3 @@ pub record ItemsTaken (p : List ℕ) (base v width : ℕ) (keys first next : Lis
   pub proper : Proper width (simplicesIn width keys (r .count))
   pub indexed : Indexed (simplicesIn width keys (r .count)) keys first next (r .count)
   pub within : width * r .count ≤ length p
-
--- What reading a list leaves: the definition's reading, over whatever list the faces' keys are of, an index of the items
--- entered, and, where none is refused and they are no edges, their sides.
-pub record ItemsTold (p : List ℕ) (base v width : ℕ) (faceKeys : List ℕ) (m : ℕ) (keys first next sides : List ℕ) (r : ItemsRead) : Type 0 where
-  pub reads : (faces : List Simplex) → FacesIn width v faces faceKeys m → itemsRead width keys r ≡ readItems width v faces base [] (itemsOf width p)
-  pub indexed : Indexed (simplicesIn width keys (r .count)) keys first next (r .count)
-  pub few : r .count ≤ 512
-  pub sided : r .verdict ≡ Fine → 2 < width → (faces : List Simplex) → FacesIn width v faces faceKeys m
-      → Sided faces (simplicesIn width keys (r .count)) sides (r .count)

@@ -1,6 +1,5 @@
-// The reader of a list: one function for edges, triangles and tetrahedra, which differ in the number of vertices. An item is
-// its number, which is looked up, so that the lists are neither gone through nor copied; the ranks of its facets, which the
-// look-up finds, are kept as its sides.
+// The reader of a list's items: one function for edges, triangles and tetrahedra, which differ in the number of vertices. An item
+// is its number, which is looked up, so that the lists are neither gone through nor copied.
 ghost use mathlib.Core.Path.{_≡_};
 ghost use mathlib.Core.List.{List};
 ghost use Prim.Native.Nat.{_+_, _≤_, _<_};
@@ -9,11 +8,11 @@ ghost use Rattle.format.specs.Simplex.{soundSimplex, listed};
 ghost use Rattle.format.specs.Simplex as format;
 ghost use Rattle.keys.specs.Chained.{Chained};
 ghost use Rattle.lookup.specs.Indexed.{NumberOf, Keyed, Proper, Blank};
-ghost use Rattle.reading_lists.specs.Items.{refusalOf, Shaped, ItemsTaken, ItemsTold, unsoundEdge, lackOf};
+ghost use Rattle.reading_lists.specs.Items.{refusalOf, Shaped, ItemsTaken, unsoundEdge, lackOf};
 use lists::Found;
 use lists::Verdict;
 
-// What reading a list comes to: how many items are entered. Where one is refused by 6 or 7, those before it are.
+// What taking the items of a list comes to: how many are entered. Where one is refused, those before it are.
 pub struct ItemsRead {
     pub verdict: Verdict,
     pub count: usize,
@@ -89,7 +88,7 @@ fn unsound_edge(p: &[u8], at: usize, width: usize, v: u16) -> bool
 }
 
 // What an item that lacks a facet is refused with: 6 vertex comes before 8 face.
-fn lack_at(p: &[u8], at: usize, width: usize, v: u16) -> u16
+pub fn lack_at(p: &[u8], at: usize, width: usize, v: u16) -> u16
     requires { ⌜ at + width ≤ length (now p) ⌝ }
     ensures { λ r. ⌜ r ≡ lackOf v (take width (drop at (now (p .entry)))) ⌝ }
 {
@@ -130,7 +129,7 @@ fn judge(
 
 // The items of the payload `p`, which starts at `base` of the file, up to the first that `judge` refuses: their number, and that
 // refusal with its place. They are entered, so their numbers stand in the keys.
-fn take_items(
+pub fn take_items(
     p: &[u8],
     base: usize,
     v: u16,
@@ -162,54 +161,4 @@ fn take_items(
         verdict: Verdict::Fine,
         count,
     }
-}
-
-// The items of the payload `p`, which starts at `base` of the file, over the m faces entered: their number, or the first
-// refusal with its place. Those that `judge` lets through are entered, and where nothing is refused their sides are kept. Rule 8
-// asks for faces and not for other items, so it can wait until all are taken: two short loops run faster than one long one. An
-// edge's facets are vertices, which 6 has settled.
-pub fn read_items(
-    p: &[u8],
-    base: usize,
-    v: u16,
-    width: usize,
-    face_keys: &[u64],
-    face_first: &[u16],
-    face_next: &[u16],
-    m: usize,
-    keys: &mut [u64],
-    first: &mut [u16],
-    next: &mut [u16],
-    sides: &mut [u64],
-) -> ItemsRead
-    requires { ⌜ Shaped (now p) base width ⌝ }
-    requires { ⌜ Chained (now «face_keys») (now «face_first») (now «face_next») m ⌝ }
-    requires { ⌜ Blank (now keys) (now first) (now next) ⌝ }
-    requires { ⌜ (m ≤ 512) × (2 < width → 512 ≤ length (now sides)) ⌝ }
-    ensures { λ r. ⌜ ItemsTold (now (p .entry)) base v width (now («face_keys» .entry)) m (now (keys .exit)) (now (first .exit)) (now (next .exit)) (now (sides .exit)) r ⌝ }
-{
-    let taken = take_items(p, base, v, width, keys, first, next);
-    if width <= 2 {
-        return taken;
-    }
-    let count = taken.count;
-    let found = lookup::find_sides(
-        face_keys,
-        face_first,
-        face_next,
-        m,
-        keys,
-        count,
-        width,
-        sides,
-    );
-    if found < count {
-        let lacking = width * found;
-        let refusal = lack_at(p, lacking, width, v);
-        return ItemsRead {
-            verdict: Verdict::Refused(refusal, base + lacking),
-            count,
-        };
-    }
-    taken
 }

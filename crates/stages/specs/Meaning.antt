@@ -1,16 +1,17 @@
 -- The answers of the record stages as the definitions' readings.
-use Prim.Native.Nat.{ℕ, _≤_, _<_}
+use Prim.Native.Nat.{ℕ, _+_, _*_, _≤_, _<_}
 use mathlib.Core.Path.{_≡_}
-use mathlib.Core.List.{List}
-use Rattle.format.specs.Numbers.{small}
+use mathlib.Core.List.{List, []}
+use lib.ListN.{length, getD, take, drop}
+use Rattle.format.specs.Numbers.{small, headerBytes}
 use Rattle.format.specs.Simplex.{Simplex}
-use Rattle.format.specs.Reading.{Reading, accepted, refused, Listing, readList}
+use Rattle.format.specs.Reading.{Reading, accepted, refused, _andThen_, Listing, readList}
 use Rattle.lists.specs.Verdicts.{readingOf}
 use Rattle.lists.specs.declared.Verdict.the-variants.{Fine}
-use Rattle.lookup.specs.Indexed.{Indexed}
+use Rattle.lookup.specs.Indexed.{Proper, Indexed}
 use Rattle.lookup.specs.Numbered.{simplicesIn}
 use Rattle.lookup.specs.Sides.{Sided}
-use Rattle.reading_lists.specs.Items.{FacesIn}
+use Rattle.reading_lists.specs.Items.{facesJudged, AllSound}
 use Rattle.stages.specs.declared.Opened.{Opened}
 use Rattle.stages.specs.declared.Opened.the-variants.{Size, Refused}
 use Rattle.stages.specs.declared.ListRead.{ListRead}
@@ -24,11 +25,23 @@ openedOf at (Refused number) = refused number at
 abbrev pub listRead : (kind : ℕ) → List ℕ → ListRead → Reading Listing
 listRead kind keys r = readingOf (r .verdict) (record { list = simplicesIn kind keys (r .count); next = r .next })
 
--- What reading a list record leaves: the definition's reading, over whatever list the faces' keys are of, an index of the
--- simplices entered, and, where none is refused and they are no edges, their sides.
-pub record ListTold (b : List ℕ) (at kind v : ℕ) (faceKeys : List ℕ) (m : ℕ) (keys first next sides : List ℕ) (r : ListRead) : Type 0 where
-  pub reads : (faces : List Simplex) → FacesIn kind v faces faceKeys m → listRead kind keys r ≡ readList small b at kind v faces
+-- What taking the items of a list record leaves: an index of them. The definition's reading, over any sound faces, is then what
+-- rule 8 says of the items taken, which stand one behind the other in the file, and where it refuses none of them, what was told
+-- when they were taken.
+pub record ListTaken (b : List ℕ) (at kind v : ℕ) (keys first next : List ℕ) (r : ListRead) : Type 0 where
+  pub reads : (faces : List Simplex) → AllSound v faces
+      → readList small b at kind v faces
+      ≡ (facesJudged kind v faces (at + headerBytes) (simplicesIn kind keys (r .count)) (readingOf (r .verdict) (simplicesIn kind keys (r .count)))
+      andThen λ l. accepted (record { list = l; next = r .next }))
+  pub own : (i : ℕ) → i < r .count → getD (simplicesIn kind keys (r .count)) i [] ≡ take kind (drop (at + headerBytes + kind * i) b)
+  pub proper : Proper kind (simplicesIn kind keys (r .count))
   pub indexed : Indexed (simplicesIn kind keys (r .count)) keys first next (r .count)
   pub few : r .count ≤ 512
-  pub sided : r .verdict ≡ Fine → 2 < kind → (faces : List Simplex) → FacesIn kind v faces faceKeys m
-      → Sided faces (simplicesIn kind keys (r .count)) sides (r .count)
+  pub within : 0 < r .count → at + headerBytes + kind * r .count ≤ length b
+
+-- What looking up the facets of what was taken leaves: the definition's reading over the list of the faces, and, where nothing is
+-- refused, the sides.
+pub record FacesFound (b : List ℕ) (at kind v : ℕ) (faces : List Simplex) (keys sides : List ℕ) (taken r : ListRead) : Type 0 where
+  pub reads : listRead kind keys r ≡ readList small b at kind v faces
+  pub count : r .count ≡ taken .count
+  pub sided : r .verdict ≡ Fine → Sided faces (simplicesIn kind keys (r .count)) sides (r .count)

@@ -3,13 +3,16 @@ use lists::SimplexList;
 use lists::Verdict;
 use records::Header;
 ghost use mathlib.Core.Path.{_≡_};
-ghost use Prim.Native.Nat.{_≤_, _<_};
+ghost use mathlib.Core.List.{List};
+ghost use Prim.Native.Nat.{ℕ, _+_, _*_, _≤_, _<_};
 ghost use lib.Dec.{eqb};
 ghost use lib.ListN.{length};
 ghost use Rattle.format.specs.Opened.{opened};
 ghost use Rattle.keys.specs.Chained.{Chained};
 ghost use Rattle.lookup.specs.Indexed.{Blank};
-ghost use Rattle.stages.specs.Meaning.{openedOf, ListTold};
+ghost use Rattle.format.specs.Simplex.{Simplex};
+ghost use Rattle.reading_lists.specs.Items.{FacesIn};
+ghost use Rattle.stages.specs.Meaning.{openedOf, ListTaken, FacesFound};
 
 // A record that stands at a place: the length of its payload, or the refusal's number.
 pub enum Opened {
@@ -54,27 +57,20 @@ impl ListRead {
     }
 }
 
-// Reads the list record of one kind at a place, over the m facets entered. What it reads is entered, so the list's numbers
-// stand in the keys, and the sides of what is no edge are kept.
+// Reads the list record of one kind at a place: its items are taken up to the first that is refused by 7 or, among edges, by 6.
+// They are entered, so their numbers stand in the keys.
 pub fn read_list(
     job: &[u8],
     at: usize,
     kind: u16,
     v: u16,
-    face_keys: &[u64],
-    face_first: &[u16],
-    face_next: &[u16],
-    m: usize,
     keys: &mut [u64],
     first: &mut [u16],
     next: &mut [u16],
-    sides: &mut [u64],
 ) -> ListRead
     requires { ⌜ (2 ≤ kind) × (kind ≤ 4) ⌝ }
-    requires { ⌜ Chained (now «face_keys») (now «face_first») (now «face_next») m ⌝ }
     requires { ⌜ Blank (now keys) (now first) (now next) ⌝ }
-    requires { ⌜ (m ≤ 512) × (2 < kind → 512 ≤ length (now sides)) ⌝ }
-    ensures { λ r. ⌜ ListTold (now (job .entry)) at kind v (now («face_keys» .entry)) m (now (keys .exit)) (now (first .exit)) (now (next .exit)) (now (sides .exit)) r ⌝ }
+    ensures { λ r. ⌜ ListTaken (now (job .entry)) at kind v (now (keys .exit)) (now (first .exit)) (now (next .exit)) r ⌝ }
 {
     let opened = open(job, at, kind);
     match opened {
@@ -89,22 +85,9 @@ pub fn read_list(
             }
             let start = at + Header::BYTES;
             let p = records::payload(job, at, size);
-            let read = reading_lists::read_items(
-                p,
-                start,
-                v,
-                width,
-                face_keys,
-                face_first,
-                face_next,
-                m,
-                keys,
-                first,
-                next,
-                sides,
-            );
-            let verdict = read.verdict;
-            let count = read.count;
+            let taken = reading_lists::take_items(p, start, v, width, keys, first, next);
+            let verdict = taken.verdict;
+            let count = taken.count;
             ListRead {
                 verdict,
                 count,
@@ -112,4 +95,49 @@ pub fn read_list(
             }
         }
     }
+}
+
+// Looks up the facets of what was taken of the triangles or tetrahedra whose record stands at a place, among the m faces entered,
+// and keeps them as sides. The first item that lacks one is refused, before whatever stands behind it.
+pub fn find_faces(
+    job: &[u8],
+    at: usize,
+    kind: u16,
+    v: u16,
+    face_keys: &[u64],
+    face_first: &[u16],
+    face_next: &[u16],
+    m: usize,
+    keys: &[u64],
+    sides: &mut [u64],
+    taken: ListRead,
+) -> ListRead
+    requires { ⌜ (2 < kind) × (kind ≤ 4) × (m ≤ 65536) ⌝ }
+    requires { ⌜ Chained (now «face_keys») (now «face_first») (now «face_next») m ⌝ }
+    requires { ⌜ (taken .count ≤ length (now keys)) × (taken .count ≤ length (now sides)) ⌝ }
+    requires { ⌜ (0 < taken .count → at + 6 + kind * taken .count ≤ length (now job)) ⌝ }
+    ensures { λ r. ⌜ ((first next : List ℕ) → ListTaken (now (job .entry)) at kind v (now (keys .entry)) first next taken → (faces : List Simplex) → FacesIn kind v faces (now («face_keys» .entry)) m → FacesFound (now (job .entry)) at kind v faces (now (keys .entry)) (now (sides .exit)) taken r) ⌝ }
+{
+    let width = kind as usize;
+    let count = taken.count;
+    let found = lookup::find_sides(
+        face_keys,
+        face_first,
+        face_next,
+        m,
+        keys,
+        count,
+        width,
+        sides,
+    );
+    if found < count {
+        let place = at + Header::BYTES + width * found;
+        let refusal = reading_lists::lack_at(job, place, width, v);
+        return ListRead {
+            verdict: Verdict::Refused(refusal, place),
+            count,
+            next: at,
+        };
+    }
+    taken
 }

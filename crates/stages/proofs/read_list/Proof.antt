@@ -2,15 +2,15 @@
 -- Assumes nothing.
 use Prim.Native.Nat.{ℕ, _+_, _^_, _≤_, _<_}
 use native.Mathlib.Omega.{arith}
-use mathlib.Core.Path.{_≡_, sym, _∙_, ap}
-use mathlib.Core.List.{[]}
+use mathlib.Core.Path.{_≡_, _∙_, ap}
 use lib.ListN.{length}
 use lib.Dec.{eqb}
-use Rattle.format.specs.Reading.{accepted, readItems, itemsOf}
+use Rattle.format.specs.Reading.{accepted}
 use Rattle.format.specs.Opened.{opened, opened-inside, payload-long}
 use Rattle.lists.specs.Verdicts.{told}
+use Rattle.reading_lists.specs.Items.{Shaped}
 use Rattle.stages.specs.Meaning.{openedOf}
-use Rattle.stages.proofs.Laws.{told-refused, list-refused, list-uneven, list-long, list-read}
+use Rattle.stages.proofs.Laws.{list-refused, list-uneven, list-long, taken-refused, list-taken}
 use borrow.Author.Needs.{needs}
 use Rattle.stages.proofs.read_list.Statement.{statement}
 use Rattle.stages.proofs.read_list.Tie as tie
@@ -30,7 +30,7 @@ enum-known-opened-2 c = search needs
 -- the record stands there, with so many bytes behind its header
 module _ (c : tie.After-known-told2) where
   abbrev start : tie.Start
-  start = c .before .before .before .before .before .before .before .before .before .before .before .before
+  start = c .before .before .before .before .before .before .before .before
 
   abbrev size : ℕ
   size = c .before .opened2 .given .0 .0
@@ -54,7 +54,7 @@ refused-requires-2 c κs = search needs
 returns : tie.Need-returns
 returns c =
     let known = c .before .before in
-    told-refused (c .refused2 .result) (c .refused2 .ensures) (start known .pre .1 .1 .0)
+    taken-refused (c .refused2 .result) (c .refused2 .ensures) (start known .pre .1)
     (λ faces. list-uneven _ _ _ _ faces (size known) (stands known) (c .before .if1 .taken))
 
 mul-if2 : tie.Need-mul-if2
@@ -66,7 +66,7 @@ refused-requires-3 c κs = search needs
 returns-2 : tie.Need-returns-2
 returns-2 c =
     let known = c .before .before .before in
-    told-refused (c .refused3 .result) (c .refused3 .ensures) (start known .pre .1 .1 .0)
+    taken-refused (c .refused3 .result) (c .refused3 .ensures) (start known .pre .1)
     (λ faces. list-long _ _ _ _ faces (size known) (stands known) (omega (arith, c .before .if2 .taken)))
 
 add-start : tie.Need-add-start
@@ -75,30 +75,33 @@ add-start c = omega (arith, inside (c .before .before))
 payload-requires : tie.Need-payload-requires
 payload-requires c κs = search needs
 
-read-items-requires : tie.Need-read-items-requires
-read-items-requires c κs =
-    let read = c .before .before .before .before in
-    let known = read .before .before .before in
+-- the payload has the shape of a list
+shaped : (c : tie.After-payload) → Shaped (c .payload .result .now) (start (c .before .before .before) .args .at + 6) (start (c .before .before .before) .args .kind)
+shaped c =
+    let known = c .before .before .before in
     let a = start known .args in
-    let long : length (read .payload .result .now) ≡ size known =
-    ap length (read .payload .ensures) ∙ payload-long (a .job .now) (a .at) (size known) (inside known) in (
-      record {
-        least = omega (arith, start known .pre .0);
-        most = omega (arith, start known .pre .0);
-        fits = omega (arith, long, read .before .if2 .left);
-        places = omega (arith, long, fits known);
-      },
-      start known .pre .1,
-    )
+    let long : length (c .payload .result .now) ≡ size known =
+    ap length (c .payload .ensures) ∙ payload-long (a .job .now) (a .at) (size known) (inside known) in
+    record {
+      least = omega (arith, start known .pre .0);
+      most = omega (arith, start known .pre .0);
+      fits = omega (arith, long, c .before .if2 .left);
+      places = omega (arith, long, fits known);
+    }
 
-add-t23 : tie.Need-add-t23
-add-t23 c = omega (arith, fits (c .before .before .before .before .before .before .before .before .before .before .before .before .before .before .before .before))
+take-items-requires : tie.Need-take-items-requires
+take-items-requires c κs =
+    let read = c .before .before .before in
+    (shaped read, start (read .before .before .before) .pre .1)
+
+add-t18 : tie.Need-add-t18
+add-t18 c = omega (arith, fits (c .before .before .before .before .before .before .before .before .before .before .before .before .before))
 
 returns-3 : tie.Need-returns-3
 returns-3 c =
     let known = c .before .before in
-    let start = known .before .before .before .before .before .before .before .before .before .before .before in
-    told-refused (c .refused .result) (c .refused .ensures) (start .pre .1 .1 .0)
+    let start = known .before .before .before .before .before .before .before in
+    taken-refused (c .refused .result) (c .refused .ensures) (start .pre .1)
     (λ faces. list-refused _ _ _ _ faces _
     (told (openedOf (start .args .at)) _ _ _ (known .before .before .«open» .ensures) (known .opened .given .1)))
 
@@ -111,26 +114,15 @@ same-length-2 c = search needs
 same-length-3 : tie.Need-same-length-3
 same-length-3 c = search needs
 
-same-length-4 : tie.Need-same-length-4
-same-length-4 c = search needs
-
 returns-4 : tie.Need-returns-4
 returns-4 c =
-    let items = c .before .before .before .before .before .before .before .before in
-    let read = items .before .before .before .before .before in
+    let items = c .before .before .before .before .before .before in
+    let read = items .before .before .before .before in
     let whole = read .before in
     let known = whole .before .before in
     let a = start known .args in
-    record {
-      reads = λ faces under.
-          sym (list-read (a .job .now) (a .at) (a .kind) (a .v) faces (size known) (stands known) (omega (arith, whole .before .if1 .left))
-          (omega (arith, whole .if2 .left)) (items .read-items .result .verdict) _
-          (ap (λ q. readItems (a .kind) (a .v) faces (a .at + 6) [] (itemsOf (a .kind) q)) (sym (read .payload .ensures))
-          ∙ sym (items .read-items .ensures .reads faces under)));
-      indexed = items .read-items .ensures .indexed;
-      few = items .read-items .ensures .few;
-      sided = items .read-items .ensures .sided;
-    }
+    list-taken (a .job .now) (a .at) (a .kind) (a .v) (size known) (stands known) (read .payload .ensures) (shaped read) (items .take-items .ensures)
+    (omega (arith, whole .before .if1 .left)) (omega (arith, whole .if2 .left))
 
 pub read-list-spec : {M : Type 1} → statement M
 read-list-spec =
@@ -148,11 +140,10 @@ read-list-spec =
     returns-2
     add-start
     payload-requires
-    read-items-requires
-    add-t23
+    take-items-requires
+    add-t18
     returns-3
     same-length
     same-length-2
     same-length-3
-    same-length-4
     returns-4)
