@@ -67,8 +67,8 @@ module _ (j : Job) where
   abbrev pub FillsJob : Chain → Type 0
   FillsJob = Fills matrix (length cols) askedChain
 
-  -- "12, fill, and the boundary of A is not empty", "13, fill, the boundary of A is empty, no d-chain has boundary
-  -- A", else "the smallest d-chain with boundary A"
+  -- 12: "fill, and the boundary of A is not empty"; 13: "fill, the boundary of A is empty, no d-chain has boundary A"; else
+  -- "the smallest d-chain with boundary A"
   pub data FillAnswer (answer : List ℕ) : Type 0 where
     open-rim : (rim ≡ empty → ⊥) → answer ≡ refusalRecord rimOpen 0 → FillAnswer answer
     unfilled : rim ≡ empty → ((c : Chain) → FillsJob c → ⊥) → answer ≡ refusalRecord noFilling 0 → FillAnswer answer

@@ -54,9 +54,9 @@ complex-closed L X sound (suc (suc zero)) i h =
 complex-closed L X sound (suc (suc (suc k))) i h = absurd (omega arith)
 
 -- A chain's record is no refusal's: the kinds differ.
-not-both : (answer : List ℕ) (d : ℕ) (l : List Simplex) (c : Chain) (number : ℕ) → answer ≡ chainRecord d l c → answer ≡ refusalRecord number 0 → ⊥
+pub not-both : (answer : List ℕ) (d : ℕ) (l : List Simplex) (c : Chain) (number place : ℕ) → answer ≡ chainRecord d l c → answer ≡ refusalRecord number place → ⊥
 unfolding chainRecord refusalRecord
-not-both answer d l c number e f =
+not-both answer d l c number place e f =
     let z : _≡_ {A = ℕ} answerKind refusalKind = sym (ap (λ x. getD x 4 0) e) ∙ ap (λ x. getD x 4 0) f in
     omega arith
 
@@ -80,12 +80,12 @@ module _ (L : Limits) (j : Job) (sound : SoundJob L j) where
   unfillable-refused answer (unfilled r n e) none = no-filling e
   unfillable-refused answer (patch r c s e) none = absurd (none c (s .has))
 
-  pub refused-unfillable : (answer : List ℕ) → FillAnswer j answer → Refusal answer → (c : Chain) → FillsJob j c → ⊥
-  refused-unfillable answer (open-rim o e) r c f = o (filled-closed c f)
-  refused-unfillable answer (unfilled z n e) r c f = n c f
-  refused-unfillable answer (patch z c′ s e) (rim-open g) c f = not-both answer (j .d) (cols j) c′ rimOpen e g
-  refused-unfillable answer (patch z c′ s e) (no-filling g) c f = not-both answer (j .d) (cols j) c′ noFilling e g
+  -- whatever the refusal's number and place
+  pub refused-unfillable : (answer : List ℕ) → FillAnswer j answer → (number place : ℕ) → answer ≡ refusalRecord number place → (c : Chain) → FillsJob j c → ⊥
+  refused-unfillable answer (open-rim o e) number place r c f = o (filled-closed c f)
+  refused-unfillable answer (unfilled z n e) number place r c f = n c f
+  refused-unfillable answer (patch z c′ s e) number place r c f = not-both answer (j .d) (cols j) c′ number place e r
 
--- A CLASS QUESTION is never refused: its answer is a chain's record.
-pub class-not-refused : (j : Job) (answer : List ℕ) → ClassAnswer j answer → (number : ℕ) → answer ≡ refusalRecord number 0 → ⊥
-class-not-refused j answer a number e = not-both answer (j .d) (rows j) (a .chain) number (a .is) e
+-- A CLASS QUESTION is never refused, whatever the number and place: its answer is a chain's record.
+pub class-not-refused : (j : Job) (answer : List ℕ) → ClassAnswer j answer → (number place : ℕ) → answer ≡ refusalRecord number place → ⊥
+class-not-refused j answer a number place e = not-both answer (j .d) (rows j) (a .chain) number place (a .is) e

@@ -31,7 +31,8 @@ pub mod RoundTrip
 pub mod Rewritten
 -- sets of simplices as marks by rank
 pub mod Marks
--- where refusals point
+-- which refusals a file can have, where they point, and what a caller can read off an outcome
 pub mod Places
+pub mod Results
 -- what is known of an answer's members
 pub mod Members

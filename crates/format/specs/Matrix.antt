@@ -98,7 +98,7 @@ boundary-of-sum below rows (s ∷ l) e =
     boundary-sum (columns below rows) (length rows) (atRank (rank s rows)) (sumOver (λ f. atRank (rank f rows)) l) ∙
     ap₂ _⊕_ (boundary-of-listed below rows s (both .0)) (boundary-of-sum below rows l (both .1))
 
--- "the boundary of a boundary is empty"
+-- the boundary of a boundary is empty
 pub closed-boundary : (below rows cols : List Simplex) → Closed rows cols → (c : Chain) → boundary (columns below rows) (length rows) (boundary (columns rows cols) (length cols) c) ≡ empty
 closed-boundary below rows cols closed c =
     boundary-boundary (columns below rows) (columns rows cols) (length rows) (length cols) c

@@ -9,11 +9,11 @@ use Rattle.format.specs.Reading.{Job, Reading, accepted, refused, readin
 use Rattle.format.specs.Answer.{Answered}
 use Rattle.format.specs.Writing.{normalForm}
 
--- bytes written at the front of lent memory: "bytes past it keep their values"
+-- bytes written at the front of lent memory: "Output bytes past the record keep their values."
 abbrev pub over : List ℕ → List ℕ → List ℕ
 over written lent = written ++ drop (length written) lent
 
--- THE ANSWER CALL. "14, fewer than 2,055 output bytes or 65,536 bytes of work memory are lent: none is written";
+-- THE ANSWER CALL. 14: "fewer than 2,055 output bytes or 65,536 bytes of work memory are lent", and "none is written";
 -- otherwise the one record is written over the front of the output, its length is returned, and "work memory may
 -- hold anything before and is all zero after".
 pub data AnswerPromise (L : Limits) (job out work : List ℕ) (count : ℕ) (out′ work′ : List ℕ) : Type 0 where

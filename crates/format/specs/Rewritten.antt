@@ -14,7 +14,7 @@ use Rattle.format.specs.Accepted.{accepted-sound}
 use Rattle.format.specs.RoundTrip.{round-trip, normal-fits, same-normal, normal-of-normal, same-answer}
 
 module _ (L : Limits) (consistent : Consistent L) (b : List ℕ) (j : Job) (read : reading L b ≡ accepted j) where
-  -- "A job written and read back is the same job": question, d, v, the lists and A agree
+  -- a job written and read back is the same job: question, d, v, the lists and A agree
   pub written-read-back : reading L (normalForm j) ≡ accepted j
   written-read-back = round-trip L consistent j (accepted-sound L b j read)
 

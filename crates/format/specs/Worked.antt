@@ -49,7 +49,8 @@ sameEditTwice =
     (9 ∷ 0 ∷ 0 ∷ 0 ∷ 7 ∷ 0 ∷ 3 ∷ 0 ∷ 0 ∷ 0 ∷ 3 ∷ 0 ∷ 0 ∷ 1 ∷ 2 ∷ []) ++
     (9 ∷ 0 ∷ 0 ∷ 0 ∷ 7 ∷ 0 ∷ 3 ∷ 0 ∷ 0 ∷ 0 ∷ 3 ∷ 0 ∷ 0 ∷ 1 ∷ 2 ∷ [])
 
--- "judged after all earlier edits": the second is stale, though in the file's order the simplex stands where it says
+-- An edit is judged "at that moment, after all earlier edits": the second is stale, though in the file's order the simplex
+-- stands where it says.
 pub second-is-stale : readsTo sameEditTwice ≡ refused stale 79
 unfolding readsTo
 second-is-stale = refl

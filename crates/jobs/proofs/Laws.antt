@@ -8,8 +8,8 @@ use mathlib.Core.List.{List, []}
 use native.Mathlib.Omega.{arith}
 use lib.ListN.{length}
 use lib.Dec.{eqb, leb, ltb}
-use borrow.Author.Tests.{lt-ltb, le-ltb, eq-eqb, ne-eqb}
-use Rattle.format.specs.Numbers.{small, tooLong, shape, badHead, headKind, edgesKind, trianglesKind, tetrahedraKind}
+use borrow.Author.Tests.{le-ltb, eq-eqb, ne-eqb}
+use Rattle.format.specs.Numbers.{small, shape, badHead, headKind, edgesKind, trianglesKind, tetrahedraKind}
 use Rattle.format.specs.Simplex.{Simplex, SimplexSet, listed, simplices}
 use Rattle.format.specs.Simplex as format
 use Rattle.format.specs.Reading.{Reading, accepted, refused, _andThen_, Listing, Chosen, readList, readChain, readEdits, readHead, afterHead, afterLists, reading, recordAt, headFits, payloadAt, chainDimension, questionOf}
@@ -184,10 +184,6 @@ module _ (b : List ℕ) (at : ℕ) (h : reader.Head) where
 
 -- THE HEAD'S RECORD.
 module _ (b : List ℕ) where
-  pub job-long : 6690 < length b → reading small b ≡ refused tooLong 0
-  unfolding reading
-  job-long h = rw (lt-ltb 6690 (length b) h)
-
   module _ (fits : length b ≤ 6690) where
     pub head-refused : (number : ℕ) → opened (eqb headKind) b 0 ≡ refused number 0 → reading small b ≡ refused number 0
     unfolding reading

@@ -6,16 +6,14 @@ use mathlib.Core.Logic.{_⊎_, inl, inr}
 use mathlib.Core.List.{List, _++_, map}
 use native.Mathlib.Omega.{arith}
 use native.Mathlib.Nat.{zero-add}
-use native.Mathlib.Decide.{decLt}
 use lib.ListN.{length, take, drop, length-take}
-use Rattle.format.specs.Numbers.{small, room, tooLong}
+use Rattle.format.specs.Numbers.{small, room}
 use Rattle.format.specs.Reading.{Reading, accepted, refused, reading, questionByte, questionOf, chainDimension}
 use Rattle.format.specs.Reading as reader
 use Rattle.format.specs.Answer.{rows, rowDimension}
 use Rattle.format.specs.Writing.{placesFrom, normalForm}
 use Rattle.format.specs.Sound.{small-consistent}
 use Rattle.format.specs.Normal.{places-few}
-use Rattle.format.specs.Places.{reading-places}
 use Rattle.format.specs.RoundTrip.{length-normalForm, normal-fits, chosen-fits}
 use Rattle.format.specs.Promise.{twoNumbers, WrittenJob, too-short, written, Written, WritePromise}
 use Rattle.lists.specs.Meaning.{simplicesOf}
@@ -26,7 +24,6 @@ use Rattle.complexes.specs.declared.Job.{Job}
 use Rattle.jobs.specs.Meaning.{Outcome, Readable}
 use Rattle.jobs.specs.Known.{read-accepted, read-readable}
 use Rattle.jobs.specs.declared.JobRead.{JobRead}
-use Rattle.jobs.proofs.Laws.{job-long}
 use Rattle.writer.specs.Meaning.{Put, jobBytes}
 use Rattle.writer.specs.Splice.{splice}
 use Rattle.writer.specs.Normal.{normal-bytes}
@@ -79,17 +76,7 @@ module _ (job : Job) (k : Readable job) (n : ℕ) (all : n ≡ length (chosenFro
       written (omega (arith, ap length bytes-normal)) (omega (arith, ap length bytes-normal))
       (put .lent ∙ ap (splice out 0) bytes-normal ∙ ap (λ i. normalForm meant ++ drop i out) (zero-add (length (normalForm meant))))
 
--- A REFUSED JOB. A job that is too long is refused at place 0, and another one within its bytes.
-pub place-low : (b : List ℕ) (n p : ℕ) → reading small b ≡ refused n p → p ≤ 6690
-place-low b n p e = go (decLt 6690 (length b))
-  where
-    go : Dec (6690 < length b) → p ≤ 6690
-    go (yes long) =
-        let same : _≡_ {A = Reading reader.Job} (refused tooLong 0) (refused n p) = sym (job-long b long) ∙ e in
-        let front : 0 ≡ p = cc in
-        omega arith
-    go (no short) = omega (arith, reading-places small b n p e)
-
+-- A REFUSED JOB.
 module _ (b : List ℕ) (r : JobRead) (o : Outcome (reading small b) r) where
   pub read-refused : (n p : ℕ) → r .verdict ≡ Refused n p → reading small b ≡ refused n p
   read-refused n p v = o .is ∙ ap (λ x. readingOf x (jobOf (r .job) (o .set))) v

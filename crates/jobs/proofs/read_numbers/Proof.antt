@@ -9,10 +9,11 @@ use lib.Dec.{eqb}
 use Rattle.format.specs.Numbers.{small, headKind}
 use Rattle.format.specs.Reading.{accepted, readHead, payloadAt}
 use Rattle.format.specs.Opened.{opened}
+use Rattle.format.specs.Places.{too-long}
 use Rattle.lists.specs.Verdicts.{told}
 use Rattle.heads.specs.Meaning.{headReading}
 use Rattle.stages.specs.Meaning.{openedOf}
-use Rattle.jobs.proofs.Laws.{told-refused, told-same, job-long, head-refused, head-misshapen, head-bad, head-fine, head-known}
+use Rattle.jobs.proofs.Laws.{told-refused, told-same, head-refused, head-misshapen, head-bad, head-fine, head-known}
 use borrow.Author.Needs.{needs}
 use Rattle.jobs.proofs.read_numbers.Statement.{statement}
 use Rattle.jobs.proofs.read_numbers.Tie as tie
@@ -49,7 +50,7 @@ refused-requires : tie.Need-refused-requires
 refused-requires c κs = search needs
 
 returns : tie.Need-returns
-returns c = told-refused _ (c .refused .result) _ _ (job-long _ (c .before .if1 .taken)) (c .refused .ensures)
+returns c = told-refused _ (c .refused .result) _ _ (too-long small _ (c .before .if1 .taken)) (c .refused .ensures)
 
 open-requires : tie.Need-open-requires
 open-requires c κs = search needs

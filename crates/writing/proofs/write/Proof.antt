@@ -1,8 +1,10 @@
 -- `writing::write` meets its contract: a refusal's number and place are the reading's, and both fit; a job that was read is
 -- written as its normal form.
 use native.Mathlib.Omega.{arith}
+use Rattle.format.specs.Numbers.{small}
+use Rattle.format.specs.Places.{reading-refused}
 use Rattle.jobs.specs.Known.{read-readable}
-use Rattle.writing.proofs.Laws.{place-low, read-refused, write-refused, write-accepted}
+use Rattle.writing.proofs.Laws.{read-refused, write-refused, write-accepted}
 use borrow.Author.Needs.{needs}
 use Rattle.writing.proofs.write.Statement.{statement}
 use Rattle.writing.proofs.write.Tie as tie
@@ -19,8 +21,8 @@ cast-two-numbers c = search needs
 two-numbers-requires : tie.Need-two-numbers-requires
 two-numbers-requires c κs =
     let read = c .before .before .before .read-job in
-    let low = place-low _ _ _ (read-refused _ (read .result) (read .ensures) _ _ (c .before .verdict .given .1)) in
-    (search needs, omega (arith, low))
+    let told = reading-refused small _ _ _ (read-refused _ (read .result) (read .ensures) _ _ (c .before .verdict .given .1)) in
+    (search needs, omega (arith, told .within))
 
 enum-told : tie.Need-enum-told
 enum-told c = search needs
