@@ -4,7 +4,8 @@
  *   test EXAMPLES [RANDOM_JOBS]
  *
  * EXAMPLES is the folder of example jobs.  The last line counts what passed and
- * what failed; the exit status is 0 where nothing failed.
+ * what failed; the exit status is 0 where nothing failed.  Every outcome has to
+ * come up among the random jobs, which wants about a thousand of them.
  */
 #include <stdio.h>
 #include <stdlib.h>
@@ -14,10 +15,11 @@
 #include "calls.h"
 #include "draft.h"
 #include "limit_jobs.h"
+#include "numbers.h"
 #include "random_jobs.h"
 #include "vectors.h"
 
-enum { RANDOM_JOBS = 200000 };
+enum { RANDOM_JOBS = 200000, RANDOM_LEAST = 1000, RANDOM_MOST = 1000000000 };
 
 /* ---- jobs by hand ---- */
 
@@ -239,6 +241,7 @@ static void test_random(unsigned long jobs)
     memset(&tally, 0, sizeof tally);
     for (unsigned long seed = 0; seed < jobs; seed++)
         try_random(seed, &tally);
+    calls_context("outcomes of the random jobs", 0);
     print_tally(&tally, jobs);
 }
 
@@ -274,11 +277,13 @@ static void test_examples(const char *folder)
 
 int main(int argc, char **argv)
 {
-    if (argc < 2 || argc > 3) {
-        fprintf(stderr, "usage: test EXAMPLES [RANDOM_JOBS]\n");
+    unsigned jobs = RANDOM_JOBS;
+    if (argc < 2 || argc > 3
+        || (argc == 3 && !number_of(argv[2], RANDOM_LEAST, RANDOM_MOST, &jobs))) {
+        fprintf(stderr, "usage: test EXAMPLES [RANDOM_JOBS], from %d to %d\n", RANDOM_LEAST,
+                RANDOM_MOST);
         return 2;
     }
-    unsigned long jobs = argc == 3 ? strtoul(argv[2], NULL, 10) : RANDOM_JOBS;
     calls_prepare();
     test_vectors();
     test_limits();
