@@ -1,13 +1,13 @@
 # shellcheck shell=sh
 # Sourced by host/run-tests, host/run-bench and host/run-profile: what to compile
-# with, what to run with, and the library.  The library is x86-64; elsewhere its programs are built
-# with a cross compiler and run under the kit's emulator.
+# with, what to run with, and the library.  The library is x86-64; elsewhere its
+# programs are built with a cross compiler and run under the kit's emulator.
 
 script=$(basename "$0")
 caller=$PWD
 cd "$(dirname "$0")/.." || exit 2 # all names below are seen from the repository's root
 out=target/host
-library=${MVZ_LIBRARY:-target/staticlib/libmvozelanke.a}
+library=target/staticlib/libmvozelanke.a
 flags="-O2 -Wall -Wextra -Werror -Iinclude -Ihost"
 
 die() {
@@ -22,6 +22,8 @@ path_of() {
     *) echo "$caller/$1" ;;
     esac
 }
+
+[ -z "${MVZ_LIBRARY-}" ] || library=$(path_of "$MVZ_LIBRARY")
 
 install_packages() {
     command -v apt-get >/dev/null || die "please install: $*"
