@@ -106,16 +106,25 @@ class Make(Case):
                 ("edges 0x", "'0x' is not a simplex"),
                 ("edges 1-300", "names a vertex above 255"),
                 ("corners 3", "'corners' is not known"),
-                (chain + " 01 01", "named twice"),
-                (chain + " 14", "'14' is not among the edges"),
+                (chain + " 01 01", "line 7: '01' is named twice"),
+                (chain + " 14", "line 7: '14' is not among the edges"),
+                (chain.replace("d 2", "d 1") + " 0-1", "line 7: '0-1' is not a vertex"),
                 (chain + "\nwalk 0 1", "A is given in one way only"),
                 (chain + "\nedit 012 0 3", "an edit is written"),
-                (chain + "\nedit 01234 from 0 to 1", "in none of the lists"),
+                (chain + "\nedit 01234 from 0 to 1", "neither an edge nor"),
                 (chain + "\nedit 012 from 0 to x", "'x' is not a place"),
-                (SHELL + "walk 0 256", "'256' is not a vertex"),
+                (SHELL + "walk 0 256", "line 7: '256' is not a vertex"),
+                (SHELL + "positions 0\npositions -1", "line 8: '-1' is not a position"),
+                (SHELL + "positions " + "9" * 5000, "line 7: '" + "9" * 40 + "..' is not a position"),
+                ("edges 1-" + "9" * 5000, "names a vertex above 255"),
+                ("\x1b[31m", "line 1: '?[31m' is not known"),
         ]:
             with self.subTest(wanted):
                 self.assertIn(wanted, self.complaint("make", text.encode()))
+
+    def test_texts_of_other_editors(self):
+        text = (SHELL + "chain 01\n").replace("\n", "\r\n")
+        self.assertEqual(self.made("\ufeff" + text), self.made(SHELL + "chain 01"))
 
     def test_bytes_are_no_text(self):
         self.assertIn("not text", self.complaint("make", b"\xff\xfe\x00"))
@@ -137,6 +146,8 @@ class Show(Case):
             SHELL.replace("012 013", "012 012") + "chain 01",
             "question class\nd 2\nv 4\nedges 01\ntriangles 012 012\npositions 1",
             "question class\nd 0\nv 200\nedges 9-10 100-200\nchain 10 199",
+            "question class\nd 0\nv 300\npositions 299",
+            "question class\nd 3\nv 4\npositions",
             "question fill\nd 1\nv 256\nchain 0 9\nedges " + " ".join(f"0-{i}" for i in range(1, 256)),
         ]
         for text in texts:
@@ -162,20 +173,25 @@ class Show(Case):
         edited = self.made(SHELL + "chain 01 02 12\nedit 012 from 0 to 3\nedit 012 from 0 to 3")
         walked = self.made(SHELL + "walk 0 1 9")
         for job, number, at, wanted in [
-                (edited, 10, 79, "record 7, edit, 9 bytes: edit 012 from 0 to 3"),
+                (edited, 10, 79, "record 7, edit, length 9: edit 012 from 0 to 3"),
                 (edited, 6, 20, "record 2, edges, item 2, counted from 0: 03"),
                 (edited, 8, 37, "record 3, triangles, item 1, counted from 0: 013"),
-                (edited, 4, 28, "record 3, triangles, 12 bytes"),
+                (edited, 4, 28, "record 3, triangles, length 12; allowed: a multiple of 3, at most 1,536"),
                 (edited, 9, 62, "record 5, chain, item 2, counted from 0: position 3, which is 12"),
                 (walked, 9, 59, "record 5, walk, step 1, counted from 0: from vertex 1 to 9"),
                 (walked, 9, 60, "record 5, walk, step 2, counted from 0: from vertex 9 to 0"),
                 (edited[:52], 3, 52, "the end of the job, where another record should stand"),
-                (edited[:60], 2, 52, "record 5, which is cut: 06 00 00 00 05 00 00 00 .."),
-                (edited, 5, 0, "record 1, head, 4 bytes"),
+                (edited[:60], 2, 52, "record 5, which is cut: 06 00 00 00 05 00 00 00"),
+                (edited + b"\xff" * 20, 2, 94, "record 8, which is cut: " + "ff " * 16 + ".."),
+                (edited, 5, 0, "record 1, head, length 4"),
                 (edited, 12, 0, "the chain A as a whole"),
                 (edited, 1, 0, "the whole job: 94 bytes, where 6690 are allowed"),
+                (edited, 14, 0, "not in the job"),
+                (b"", 3, 0, "the end of the job, where another record should stand"),
                 (self.made(SHELL + "positions 7"), 9, 58,
                  "item 0, counted from 0: position 7, which is not in the list"),
+                (self.made(SHELL + "positions 3 1"), 9, 60,
+                 "item 1, counted from 0: position 1, which is 02, after position 3"),
         ]:
             with self.subTest(wanted):
                 self.assertIn(wanted, self.place(job, number, at))
@@ -195,6 +211,9 @@ class Show(Case):
                 (job + b"\x00", "byte 60: the record is cut"),
                 (bytes.fromhex("01 00 00 00 09 00 ff"), "kind 9 and 1 bytes has no place in a job: ff"),
                 (bytes.fromhex("03 00 00 00 02 00 00 01 02"), "kind 2 and 3 bytes"),
+                (job[:52], "byte 52: the job ends where chain or walk should stand"),
+                (job[:10] + job[28:], "byte 10: triangles where edges should stand"),
+                (job + job[46:52], "byte 60: tetrahedra where edit should stand"),
                 (bytes.fromhex("03 00 00 00 10 00 02 00 01"), "does not hold whole simplices"),
                 (bytes.fromhex("00 00 00 00 10 00"), "does not hold whole simplices"),
                 (refusal(1, 0) + b"\x00", "bytes follow the answer"),
@@ -204,9 +223,50 @@ class Show(Case):
             with self.subTest(wanted):
                 self.assertIn(wanted, self.complaint("show", data))
 
+    def test_refusal_by_its_numbers(self):
+        job = str(EXAMPLES / "shell-moved.job")
+        self.assertEqual(self.shown(b"", "--refusal", "10", "64", "--job", job),
+                         "refusal 10, stale: the simplex of an edit is not at the place where the edit saw it\n"
+                         "place: byte 64, record 6, edit, length 9: edit 012 from 0 to 3\n")
+        for words, wanted in [
+                (("--refusal", "15", "0"), "there is no refusal 15"),
+                (("--refusal", "x", "0"), "wants two numbers"),
+                (("--refusal", "10", "64", job), "give one of them"),
+                (("--job", "-"), "cannot both be standard input"),
+        ]:
+            with self.subTest(wanted):
+                self.assertIn(wanted, self.complaint("show", b"", *words))
+
     def test_place_outside_the_job(self):
         self.assertIn("is it the right job?",
                       self.complaint("show", refusal(6, 999), "--job", str(EXAMPLES / "plate.job")))
+
+
+class Streams(Case):
+    """One line and status 2, or at a broken pipe no line at all; never a traceback."""
+
+    def redirected(self, tool, path, redirection):
+        return subprocess.run(["sh", "-c", f'"$0" -S "$1" "$2" {redirection}', sys.executable, str(TOOLS / tool),
+                               str(path)], capture_output=True, check=False)
+
+    def test_output_that_cannot_be_written(self):
+        for tool, example in (("show", "plate.job"), ("make", "plate.txt")):
+            for redirection, wanted in ((">/dev/full", b"standard output: No space left on device"),
+                                        (">&-", b"standard output is closed")):
+                with self.subTest(tool=tool, redirection=redirection):
+                    done = self.redirected(tool, EXAMPLES / example, redirection)
+                    self.assertEqual((done.returncode, done.stderr), (2, tool.encode() + b": " + wanted + b"\n"))
+
+    def test_broken_pipe(self):
+        for tool, example in (("show", "plate.job"), ("make", "plate.txt")):
+            with self.subTest(tool):
+                done = self.redirected(tool, EXAMPLES / example, "| true")
+                self.assertEqual(done.stderr, b"")
+
+    def test_closed_input(self):
+        for tool in ("show", "make"):
+            done = self.redirected(tool, "-", "<&-")
+            self.assertEqual((done.returncode, done.stderr), (2, tool.encode() + b": standard input is closed\n"))
 
 
 class Help(Case):
