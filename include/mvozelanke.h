@@ -6,10 +6,15 @@
  * mvz_write reads a job and writes it back in its one normal form.
  *
  * All numbers in jobs and answers are little-endian.  The buffers lent to one
- * call must not overlap.  A null pointer is fine where the length is 0.  Neither
- * call keeps a pointer, allocates memory or changes a byte of the job.  A thread
- * that calls them wants 128 KB of stack free (measured on x86-64: mvz_answer takes
- * 86 KB, mvz_write 112 KB; docs/PERFORMANCE.md).
+ * call must not overlap; they need no alignment.  A null pointer is fine where the
+ * length is 0.  Neither call keeps a pointer, allocates memory or changes a byte of
+ * the job.  Nothing is kept from one call to the next, so several threads may call
+ * at once, each with its own out and work.  A thread that calls wants 128 KB of
+ * stack free (measured on x86-64: mvz_answer takes 86 KB, mvz_write 112 KB;
+ * docs/PERFORMANCE.md).
+ *
+ * The library, libmvozelanke.a, is for x86-64 Linux; of the C library it uses
+ * memcpy and memset alone.  examples/panel.c shows the calls.
  */
 #ifndef MVOZELANKE_H
 #define MVOZELANKE_H
@@ -27,7 +32,29 @@ enum mvz_question {
     MVZ_CLASS = 2  /* the smallest d-chain that differs from A by a boundary, d from 0 to 2 */
 };
 
-/* Kinds of records.  1 to 7 stand in a job, 16 and 17 are answers. */
+/*
+ * Kinds of records.  A record is the length of its payload in four bytes, its kind
+ * in two, and the payload.  A job has kinds 1 to 4 once each and in this order,
+ * then one of 5 and 6, then up to 64 of kind 7.  An answer is one of 16 and 17.
+ *
+ *   kind  payload                                       allowed length
+ *     1   question and d, one byte each; v, the number  4
+ *         of vertices (0 to 256), two bytes
+ *     2   edges, two vertices each                      multiple of 2, at most 1024
+ *     3   triangles, three vertices each                multiple of 3, at most 1536
+ *     4   tetrahedra, four vertices each                multiple of 4, at most 2048
+ *     5   A by positions, two bytes each, rising        even, at most 1024
+ *     6   A as a closed walk over vertices              at most 1024
+ *     7   an edit: list kind (2, 3 or 4), seen and new  8, 9 or 10, by the list kind
+ *         position, two bytes each; then the vertices
+ *    16   d, one byte; then d + 1 vertices for each member, in rising rank
+ *    17   refusal number, two bytes; place, four bytes
+ *
+ * A vertex is one byte, and the vertices of a simplex rise.  A simplex's position
+ * in its list, counted from 0, is its rank; a vertex's is its number.  A has
+ * dimension d - 1 for fill and d for class; kind 6 is for dimension 1.  A's positions
+ * are those of the lists as the job has them, before its edits.
+ */
 enum mvz_kind {
     MVZ_KIND_HEAD = 1,
     MVZ_KIND_EDGES = 2,
@@ -40,13 +67,16 @@ enum mvz_kind {
     MVZ_KIND_REFUSAL = 17
 };
 
-/* Refusal numbers.  0 stands for "not refused" and is never in a record. */
+/*
+ * Refusal numbers.  0 stands for "not refused" and is never in a record.  A place is
+ * a byte of the job, counted from 0; docs/REFUSALS.md says what to do about each.
+ */
 enum mvz_refusal_number {
     MVZ_NOT_REFUSED = 0,
     MVZ_TOO_LONG = 1,    /* the job has more than MVZ_JOB_MOST bytes */
     MVZ_CUT = 2,         /* a record runs past the end of the job */
     MVZ_BAD_KIND = 3,    /* this kind may not stand here, or the chain is missing */
-    MVZ_BAD_SHAPE = 4,   /* the record's length is not allowed */
+    MVZ_BAD_SHAPE = 4,   /* the record's length, or an edit's list kind, is not allowed */
     MVZ_BAD_HEAD = 5,    /* question, d or v is outside its range */
     MVZ_BAD_VERTEX = 6,  /* a simplex does not rise, or names a vertex not below v */
     MVZ_TWICE = 7,       /* a simplex stands in its list already */
