@@ -52,8 +52,12 @@ enum mvz_question {
  *
  * A vertex is one byte, and the vertices of a simplex rise.  A simplex's position
  * in its list, counted from 0, is its rank; a vertex's is its number.  A has
- * dimension d - 1 for fill and d for class; kind 6 is for dimension 1.  A's positions
- * are those of the lists as the job has them, before its edits.
+ * dimension d - 1 for fill and d for class; kind 6 is for dimension 1.  A walk goes
+ * back to its first vertex and stands for the set of edges that its steps use.
+ *
+ * Edits are done in turn.  Each takes a simplex from its seen position to the new
+ * one, and those between shift by one place.  They move ranks, not A: its positions
+ * are those of the lists as the job has them, before the edits.
  */
 enum mvz_kind {
     MVZ_KIND_HEAD = 1,
