@@ -42,7 +42,7 @@ edge-closed v (a ∷ b ∷ []) two sound =
 edge-closed v (a ∷ b ∷ c ∷ s) two sound = absurd (omega arith)
 
 -- every facet of a listed simplex is listed, in each dimension
-complex-closed : (L : Limits) (X : Complex) → SoundComplex L X → (k : ℕ) → Closed (simplices X k) (simplices X (suc k))
+pub complex-closed : (L : Limits) (X : Complex) → SoundComplex L X → (k : ℕ) → Closed (simplices X k) (simplices X (suc k))
 unfolding simplices
 complex-closed L X sound zero i h =
     let here : listed (getD (X .edges) i []) (X .edges) ≡ true = stands-listed (getD (X .edges) i []) (X .edges) i (record { below = h; here = refl }) in

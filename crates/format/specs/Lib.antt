@@ -36,3 +36,9 @@ pub mod Places
 pub mod Results
 -- what is known of an answer's members
 pub mod Members
+-- demand 3 about sets of simplices: its definitions, their laws, and the theorems
+pub mod Sets
+pub mod SetLaws
+pub mod SetBoundary
+pub mod SetAnswers
+pub mod SetDemands

@@ -45,7 +45,7 @@ pub record SoundMember (v : ℕ) (s : Simplex) : Type 0 where
   pub sound : soundSimplex v s ≡ true
   pub few : length s ≤ 4
 
-listed-copies : (s : Simplex) (l : List Simplex) → listed s l ≡ true → 1 ≤ copies s l
+pub listed-copies : (s : Simplex) (l : List Simplex) → listed s l ≡ true → 1 ≤ copies s l
 unfolding listed copies
 listed-copies s [] e = true-not-false false e refl
 listed-copies s (t ∷ l) e = go (same s t) e (listed-copies s l)
