@@ -77,10 +77,14 @@ one-place s (t ∷ l) once (suc i) zero hi hj ei ej =
 one-place s (t ∷ l) once (suc i) (suc j) hi hj ei ej =
     ap suc (one-place s l (omega (arith, once)) i j (le-of-suc-le-suc hi) (le-of-suc-le-suc hj) ei ej)
 
+-- each listed simplex is as rule 6 wants it
+abbrev pub AllSound : ℕ → List Simplex → Type 0
+AllSound v l = (s : Simplex) → listed s l ≡ true → soundSimplex v s ≡ true
+
 -- A LIST as rules 6, 7 and 8 want it. What is said of its members does not depend on their order.
 pub record SoundList (width v : ℕ) (faces l : List Simplex) : Type 0 where
   pub wide : (s : Simplex) → listed s l ≡ true → length s ≡ width
-  pub sound : (s : Simplex) → listed s l ≡ true → soundSimplex v s ≡ true
+  pub sound : AllSound v l
   pub closed : (s : Simplex) → listed s l ≡ true → allListed (owedFacets width s) faces ≡ true
   pub once : (s : Simplex) → copies s l ≤ 1
 

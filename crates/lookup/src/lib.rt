@@ -3,7 +3,7 @@
 ghost use mathlib.Core.Path.{_≡_};
 ghost use mathlib.Core.List.{List};
 ghost use Prim.Native.Nat.{_-_, _≤_, _<_};
-ghost use lib.ListN.{length};
+ghost use lib.ListN.{length, getD};
 ghost use Rattle.format.specs.Simplex.{rank};
 ghost use Rattle.format.specs.Simplex as format;
 ghost use Rattle.lists.specs.Meaning.{verticesOf, simplicesOf, rankOf};
@@ -17,7 +17,15 @@ use lists::Found;
 use lists::Simplex;
 use lists::SimplexList;
 
-// A simplex's own number: its vertices are the digits.
+// The number of the simplex of these vertices, which are the digits; past the last they are 0.
+pub fn number(a: u64, b: u64, c: u64, d: u64) -> u64
+    requires { ⌜ (a < 65536) × (b < 65536) × (c < 65536) × (d < 65536) ⌝ }
+    ensures { λ r. ⌜ ((s : format.Simplex) → length s ≤ 4 → a ≡ getD s 0 0 → b ≡ getD s 1 0 → c ≡ getD s 2 0 → d ≡ getD s 3 0 → NumberOf s r) ⌝ }
+{
+    a + 65536 * (b + 65536 * (c + 65536 * d))
+}
+
+// A simplex's own number.
 pub fn number_of(s: Simplex) -> u64
     ensures { λ r. ⌜ NumberOf (verticesOf s) r ⌝ }
 {
@@ -25,7 +33,7 @@ pub fn number_of(s: Simplex) -> u64
     let b = s.vertex(1) as u64;
     let c = s.vertex(2) as u64;
     let d = s.vertex(3) as u64;
-    a + 65536 * (b + 65536 * (c + 65536 * d))
+    number(a, b, c, d)
 }
 
 // The simplex of `width` vertices that has a number.

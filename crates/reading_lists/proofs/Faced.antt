@@ -10,7 +10,7 @@ use lib.Dec.{leb, ltb}
 use Rattle.format.specs.Simplex.{Simplex, risingFrom, allBelow, soundSimplex, facets, listed, allListed}
 use Rattle.format.specs.Listed.{and-true}
 use Rattle.format.specs.Lookup.{allListed-append}
-use Rattle.reading_lists.specs.Items.{AllSound}
+use Rattle.format.specs.Sound.{AllSound}
 
 module _ (faces : List Simplex) where
   parts : (r q : List Simplex) → allListed (r ++ q) faces ≡ true → (allListed r faces ≡ true) × (allListed q faces ≡ true)

@@ -12,7 +12,8 @@ use borrow.Author.Tests.{le-leb, lt-leb, leb-false}
 use Rattle.format.specs.Simplex.{Simplex, soundSimplex, same, listed, allListed, facets}
 use Rattle.format.specs.Listed.{same-equal}
 use Rattle.format.specs.Reading.{Reading, refused, refuseIf, owedFacets}
-use Rattle.reading_lists.specs.Items.{lackOf, facesJudged, AllSound}
+use Rattle.format.specs.Sound.{AllSound}
+use Rattle.reading_lists.specs.Items.{lackOf, facesJudged}
 use Rattle.reading_lists.proofs.Faced.{faced-sound}
 
 -- what rule 8 asks of an edge is nothing, and of the others each facet

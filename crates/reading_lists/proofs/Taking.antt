@@ -17,13 +17,14 @@ use Rattle.format.specs.Simplex.{soundSimplex, listed, allListed}
 use Rattle.format.specs.Simplex as format
 use Rattle.format.specs.Reading.{Reading, refused, refuseIf, owedFacets, itemsOf, readItems}
 use Rattle.format.specs.Items.{items-next, items-none}
+use Rattle.format.specs.Sound.{AllSound}
 use Rattle.lists.proofs.Four.{length-part}
 use Rattle.lists.specs.declared.Verdict.the-variants.{Fine, Refused}
 use Rattle.lookup.specs.Indexed.{Proper, Keyed, Indexed, Blank, Entered}
 use Rattle.lookup.specs.IndexLaws.{proper-none, proper-more, indexed-none, indexed-more}
 use Rattle.lookup.specs.Numbered.{simplicesIn}
 use Rattle.lookup.specs.NumberedLaws.{none-in, more-in}
-use Rattle.reading_lists.specs.Items.{refusalOf, lackOf, facesJudged, AllSound, ItemsTaken, Shaped}
+use Rattle.reading_lists.specs.Items.{refusalOf, lackOf, facesJudged, ItemsTaken, Shaped}
 use Rattle.reading_lists.proofs.Facing.{faces-more, faces-same, paid-sound}
 
 -- The definition's checks in a row, of an item that is sound or not, repeated or not, and has its facets or not. Of one that is no

@@ -2,13 +2,14 @@
 -- are all listed is sound, since they are, so 6 is asked of one that is no edge only where it lacks a facet.
 use Prim.Native.Nat.{ℕ, _+_, _-_, _*_, _^_, _≤_, _<_}
 use mathlib.Core.Path.{_≡_}
-use mathlib.Core.Bool.{Bool, true, not, cond, _&&_}
+use mathlib.Core.Bool.{Bool, not, cond, _&&_}
 use mathlib.Core.List.{List, [], _∷_}
 use lib.ListN.{length, getD, take, drop}
 use lib.Dec.{leb}
 use Rattle.format.specs.Numbers.{vertex, twice, face}
 use Rattle.format.specs.Simplex.{Simplex, soundSimplex, listed, allListed}
 use Rattle.format.specs.Reading.{Reading, refuseIf, owedFacets, itemsOf, readItems}
+use Rattle.format.specs.Sound.{AllSound}
 use Rattle.lists.specs.Verdicts.{readingOf}
 use Rattle.lookup.specs.Indexed.{Proper, Keyed, Indexed}
 use Rattle.lookup.specs.Numbered.{simplicesIn}
@@ -32,10 +33,6 @@ unfoldable pub facesJudged : (width v : ℕ) (faces : List Simplex) (at : ℕ) �
 facesJudged width v faces at [] behind = behind
 facesJudged width v faces at (s ∷ rest) behind =
     refuseIf (not (allListed (owedFacets width s) faces)) (lackOf v s) at (facesJudged width v faces (at + width) rest behind)
-
--- each listed simplex is sound
-abbrev pub AllSound : ℕ → List Simplex → Type 0
-AllSound v faces = (f : Simplex) → listed f faces ≡ true → soundSimplex v f ≡ true
 
 -- the list of the facets, all sound, of which the first m keys are the numbers
 pub record FacesIn (width v : ℕ) (faces : List Simplex) (keys : List ℕ) (m : ℕ) : Type 0 where

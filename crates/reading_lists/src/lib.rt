@@ -39,7 +39,7 @@ fn number_at(p: &[u8], at: usize, width: usize) -> u64
     let b = vertex_at(p, at, width, 1);
     let c = vertex_at(p, at, width, 2);
     let d = vertex_at(p, at, width, 3);
-    a + 65536 * (b + 65536 * (c + 65536 * d))
+    lookup::number(a, b, c, d)
 }
 
 // Whether the vertices rise strictly and are all below v.

@@ -13,6 +13,7 @@ use Rattle.format.specs.Numbers.{small, cut, wrongKind, shape, headerBytes}
 use Rattle.format.specs.Simplex.{Simplex}
 use Rattle.format.specs.Reading.{Reading, accepted, refused, _andThen_, Listing, ended, broken, whole, headerAt, payloadAt, listFits, readItems, itemsOf, readList}
 use Rattle.format.specs.Opened.{openedFrom, opened, record-opened, opened-inside, payload-long}
+use Rattle.format.specs.Sound.{AllSound}
 use Rattle.lists.specs.declared.Verdict.{Verdict}
 use Rattle.lists.specs.declared.Verdict.the-variants.{Refused}
 use Rattle.lists.specs.Verdicts.{readingOf, reading-then}
@@ -21,7 +22,7 @@ use Rattle.lookup.specs.IndexLaws.{proper-none, indexed-none}
 use Rattle.lookup.specs.Numbered.{simplicesIn}
 use Rattle.lookup.specs.NumberedLaws.{none-in}
 use Rattle.lookup.specs.Sides.{Sided, SidesTold}
-use Rattle.reading_lists.specs.Items.{lackOf, facesJudged, AllSound, Shaped, ItemsTaken}
+use Rattle.reading_lists.specs.Items.{lackOf, facesJudged, Shaped, ItemsTaken}
 use Rattle.reading_lists.specs.declared.ItemsRead.{ItemsRead}
 use Rattle.reading_lists.proofs.Facing.{Paid, edge-owes-none, others-owe, faces-listed, first-lacks}
 use Rattle.stages.specs.Meaning.{listRead, ListTaken, FacesFound}

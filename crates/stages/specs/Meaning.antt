@@ -6,12 +6,13 @@ use lib.ListN.{length, getD, take, drop}
 use Rattle.format.specs.Numbers.{small, headerBytes}
 use Rattle.format.specs.Simplex.{Simplex}
 use Rattle.format.specs.Reading.{Reading, accepted, refused, _andThen_, Listing, readList}
+use Rattle.format.specs.Sound.{AllSound}
 use Rattle.lists.specs.Verdicts.{readingOf}
 use Rattle.lists.specs.declared.Verdict.the-variants.{Fine}
 use Rattle.lookup.specs.Indexed.{Proper, Indexed}
 use Rattle.lookup.specs.Numbered.{simplicesIn}
 use Rattle.lookup.specs.Sides.{Sided}
-use Rattle.reading_lists.specs.Items.{facesJudged, AllSound}
+use Rattle.reading_lists.specs.Items.{facesJudged}
 use Rattle.stages.specs.declared.Opened.{Opened}
 use Rattle.stages.specs.declared.Opened.the-variants.{Size, Refused}
 use Rattle.stages.specs.declared.ListRead.{ListRead}

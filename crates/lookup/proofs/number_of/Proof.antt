@@ -1,11 +1,10 @@
--- `number_of` meets its contract: four digits of 16 bits.
+-- `number_of` meets its contract: past its last vertex a simplex has vertex 0.
 -- Assumes nothing.
 use Prim.Native.Nat.{suc}
 use mathlib.Core.Path.{_≡_}
 use native.Mathlib.Omega.{arith}
 use lib.ListN.{length, length-take}
 use Rattle.lists.specs.Meaning.{verticesOf}
-use Rattle.lookup.specs.IndexLaws.{number-told}
 use borrow.Author.Needs.{needs}
 use Rattle.lookup.proofs.number_of.Statement.{statement}
 use Rattle.lookup.proofs.number_of.Tie as tie
@@ -34,31 +33,16 @@ vertex-requires-4 c κs = search needs
 cast-d : tie.Need-cast-d
 cast-d c = search needs
 
-mul-result : tie.Need-mul-result
-mul-result c = search needs
-
-add-result : tie.Need-add-result
-add-result c = search needs
-
-mul-result-2 : tie.Need-mul-result-2
-mul-result-2 c = search needs
-
-add-result-2 : tie.Need-add-result-2
-add-result-2 c = search needs
-
-mul-result-3 : tie.Need-mul-result-3
-mul-result-3 c = search needs
-
-add-result-3 : tie.Need-add-result-3
-add-result-3 c = search needs
+number-requires : tie.Need-number-requires
+number-requires c κs = search needs
 
 returns : tie.Need-returns
 returns c =
-    let a = c .before .before .before .before .args in
+    let a = c .before .before .before .before .before .args in
     let four : length (a .s .vertices) ≡ 4 = search needs in
-    number-told (verticesOf (a .s)) _ _ _ _ (omega (arith, four, length-take (suc (a .s .dim)) (a .s .vertices)))
-    (c .before .before .before .vertex .ensures) (c .before .before .vertex2 .ensures) (c .before .vertex3 .ensures)
-    (c .vertex4 .ensures) (search needs) (search needs) (search needs) (search needs)
+    c .number .ensures (verticesOf (a .s)) (omega (arith, four, length-take (suc (a .s .dim)) (a .s .vertices)))
+    (c .before .before .before .before .vertex .ensures) (c .before .before .before .vertex2 .ensures) (c .before .before .vertex3 .ensures)
+    (c .before .vertex4 .ensures)
 
 pub number-of-spec : {M : Type 1} → statement M
 number-of-spec =
@@ -72,10 +56,5 @@ number-of-spec =
     cast-c
     vertex-requires-4
     cast-d
-    mul-result
-    add-result
-    mul-result-2
-    add-result-2
-    mul-result-3
-    add-result-3
+    number-requires
     returns)
