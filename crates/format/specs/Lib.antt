@@ -23,7 +23,7 @@ pub mod Worked
 -- what is known of every accepted job
 pub mod Sound
 pub mod Accepted
-pub mod Demands
+pub mod Rims
 -- the round trip: a job's normal form reads back as the job
 pub mod Bytes
 pub mod Normal
@@ -41,4 +41,4 @@ pub mod Sets
 pub mod SetLaws
 pub mod SetBoundary
 pub mod SetAnswers
-pub mod SetDemands
+pub mod Demands

@@ -1,18 +1,18 @@
 -- A refusal's number is one of 1 to 11, and its place lies within the file. Why: each check gives its own number, each record
 -- begins where the one before it ends, and each item lies in its record.
-use Prim.Native.Nat.{ℕ, zero, suc, _+_, _*_, _/_, _%_, _≤_, _<_}
+use Prim.Native.Nat.{ℕ, zero, suc, _+_, _*_, _/_, _≤_, _<_}
 use mathlib.Core.Path.{_≡_, refl, sym, _∙_, ap, subst, subst₂}
 use mathlib.Core.Bool.{Bool, true, false, not, _||_, cond}
 use mathlib.Core.List.{List, [], _∷_, _++_}
 use native.Mathlib.Omega.{arith}
 use native.Mathlib.Nat.{div-mul-le-self}
 use native.Mathlib.Decide.{decLt}
-use lib.ListN.{length, take, drop, length-drop}
+use lib.ListN.{length}
 use lib.Dec.{eqb, leb, ltb}
-use borrow.Author.Tests.{leb-false, lt-ltb}
+use borrow.Author.Tests.{lt-ltb}
 use Rattle.format.specs.Numbers.{Limits, headerBytes, headKind, edgesKind, trianglesKind, tetrahedraKind, editKind, wrongKind, cut, shape, badHead, vertex, twice, face, chainItem, stale, target, tooLong}
 use Rattle.format.specs.Simplex.{Simplex, Complex, soundSimplex, listed, allListed, simplices}
-use Rattle.format.specs.Reading.{Reading, accepted, refused, refuseIf, _andThen_, Header, ended, broken, whole, Record, Head, Listing, Chosen, Job, headerAt, payloadAt, recordFrom, recordAt, readHead, headSound, headOf, items, itemsOf, readItems, owedFacets, listFits, readList, positionsOf, risingBelow, named, walkChain, stepsFrom, steps, readSteps, mayAsk, chainFits, chosenBy, readChain, chainDimension, edited, standsAt, simplexOf, seenOf, newOf, listKindOf, listOfKind, editFits, readEdits, afterLists, afterHead, headFits, reading}
+use Rattle.format.specs.Reading.{Reading, _andThen_, accepted, refused, refuseIf, Header, ended, broken, whole, Record, Listing, Chosen, Job, headerAt, payloadAt, recordFrom, recordAt, readHead, headSound, headOf, itemsOf, readItems, owedFacets, listFits, readList, positionsOf, risingBelow, named, walkChain, stepsFrom, steps, readSteps, mayAsk, chainFits, chosenBy, readChain, chainDimension, edited, standsAt, simplexOf, seenOf, newOf, listKindOf, listOfKind, editFits, readEdits, afterLists, afterHead, headFits, reading}
 use Rattle.format.specs.Opened.{RecordWhole, record-whole}
 use Rattle.format.specs.Sound.{both-accepted, same-accepted}
 use Rattle.format.specs.Accepted.{length-items}

@@ -1,12 +1,12 @@
 -- What a caller can read off an outcome: the write call's result taken apart, and a refusal's record. Why nothing is lost: a
 -- refusal's number is 1 to 14, and places and lengths are no more than the longest job's.
-use Prim.Native.Nat.{ℕ, _+_, _*_, _/_, _%_, _^_, _≤_, _<_}
+use Prim.Native.Nat.{ℕ, _/_, _%_, _^_, _≤_, _<_}
 use native.Mathlib.Omega.{arith}
-use mathlib.Core.Path.{_≡_, _∙_, ap, subst}
+use mathlib.Core.Path.{_≡_, subst}
 use mathlib.Core.List.{List}
 use lib.ListN.{length}
 use Rattle.format.specs.Numbers.{small, room}
-use Rattle.format.specs.Reading.{Job, Reading, accepted, refused, reading, u16At, u32At}
+use Rattle.format.specs.Reading.{Job, accepted, refused, reading, u16At, u32At}
 use Rattle.format.specs.Answer.{refusalRecord}
 use Rattle.format.specs.Writing.{normalForm}
 use Rattle.format.specs.Promise.{twoNumbers, WrittenJob, too-short, written, Written, WritePromise}

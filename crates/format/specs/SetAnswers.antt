@@ -11,8 +11,8 @@ use Rattle.format.specs.Reading.{Job}
 use Rattle.format.specs.Answer.{rowDimension, rows, cols, matrix, askedChain, rim, FillsJob, FillAnswer, open-rim, unfilled, patch, ClassAnswer}
 use Rattle.format.specs.Matrix.{chain-under}
 use Rattle.format.specs.Sound.{SoundJob}
-use Rattle.format.specs.Demands.{filled-closed}
-use Rattle.format.specs.Sets.{noSimplex, _△_, boundarySet, setRecord, FillsSet, InClassSet, RimClosed, NoneFills, FillSetAnswer, refused-open, refused-unfilled, filled-by, ClassSetAnswer}
+use Rattle.format.specs.Rims.{filled-closed}
+use Rattle.format.specs.Sets.{noSimplex, _△_, boundarySet, FillsSet, InClassSet, RimClosed, FillSetAnswer, refused-open, refused-unfilled, filled-by, ClassSetAnswer}
 use Rattle.format.specs.SetLaws.{setOf, set-within, chain-of-set, same-sets, none-chain, none-within, chain-sum, sum-within, record-same, record-of-set, smallest-set, smallest-chain}
 use Rattle.format.specs.SetBoundary.{Layers, boundary-chain, boundary-within, sound-layers}
 

@@ -18,7 +18,7 @@ use Rattle.format.specs.Listed.{true-not-false, and-true, same-refl, sam
 use Rattle.format.specs.Lookup.{stands-listed}
 use Rattle.format.specs.Matrix.{chain-under, columns-under}
 use Rattle.format.specs.Sound.{copies, copies-append, Within, SoundComplex}
-use Rattle.format.specs.Demands.{complex-closed}
+use Rattle.format.specs.Rims.{complex-closed}
 use Rattle.format.specs.Normal.{Wide}
 use Rattle.format.specs.Marks.{Once, step-marks, vertex-below, simplices-once}
 use Rattle.format.specs.Members.{listed-copies, simplices-sound}

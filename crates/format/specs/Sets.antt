@@ -1,5 +1,5 @@
 -- Demand 3 said about sets of simplices, with no matrix and no reduction: what a boundary, a filling and a class are,
--- which of two sets is smaller, and which record answers a job. That the promise says the same is proved in `SetDemands`.
+-- which of two sets is smaller, and which record answers a job. That the promise says the same is proved in `Demands`.
 use Prim.Native.Nat.{ℕ, _<_}
 use mathlib.Core.Path.{_≡_}
 use mathlib.Core.Bool.{Bool, true, false, _&&_, cond}
@@ -34,7 +34,7 @@ boundarySet [] S f = false
 boundarySet (s ∷ l) S f = differ (S s && isFacet f s) (boundarySet l S f)
 
 -- "Chain P is smaller than Q when they differ and the highest-ranked simplex of P+Q is in Q": it stands at place `rank`
--- of the list, "the place in a list is the rank", and no simplex of P+Q stands above it.
+-- of the list, "The place in a list, counted from 0, is the rank", and no simplex of P+Q stands above it.
 pub record SmallerSet (l : List Simplex) (P Q : SimplexSet) : Type 0 where
   pub rank : ℕ
   pub stands : rank < length l
@@ -62,12 +62,12 @@ IsRefusal answer = (number : ℕ) × (place : ℕ) × (answer ≡ refusalRecord 
 
 -- Of a job, `rows j` lists the simplices of A's dimension and `cols j` those one dimension higher, after all edits.
 module _ (j : Job) where
-  -- "Fill: given a (d-1)-chain A, .. d-chain with boundary A": a set of listed d-simplices
+  -- Fill: "given a (d-1)-chain A, the smallest d-chain with boundary A"; a set of listed d-simplices that has it
   pub record FillsSet (S : SimplexSet) : Type 0 where
     pub within : Within S (cols j)
     pub bounds : boundarySet (cols j) S ≡ j .chain
 
-  -- "Class: given a d-chain A, .. G for which G+A is the boundary of some (d+1)-chain"
+  -- Class: "given a d-chain A, the smallest d-chain G for which G+A is the boundary of some (d+1)-chain"; a set that is such a G
   pub record InClassSet (G : SimplexSet) : Type 0 where
     pub within : Within G (rows j)
     pub by : SimplexSet
@@ -82,7 +82,7 @@ module _ (j : Job) where
   abbrev pub NoneFills : Type 0
   NoneFills = (S : SimplexSet) → FillsSet S → ⊥
 
-  -- THE ANSWER to a boundary question: "12, fill, and the boundary of A is not empty", "13, fill, the boundary of A is
+  -- THE ANSWER to a boundary question. 12: "fill, and the boundary of A is not empty"; 13: "fill, the boundary of A is
   -- empty, no d-chain has boundary A", else "the smallest d-chain with boundary A"
   pub data FillSetAnswer (answer : List ℕ) : Type 0 where
     refused-open : (RimClosed → ⊥) → answer ≡ refusalRecord rimOpen 0 → FillSetAnswer answer

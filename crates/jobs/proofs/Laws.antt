@@ -1,23 +1,22 @@
 -- What each stage's verdict comes to: a refusal is the whole reading's, and otherwise the rest of the definition follows.
-use Prim.Native.Nat.{ℕ, suc, _+_, _-_, _≤_, _<_}
+use Prim.Native.Nat.{ℕ, _-_, _≤_, _<_}
 use native.Mathlib.Numerals.{sub-one}
 use mathlib.Core.Path.{_≡_, refl, sym, _∙_, ap, subst, fun-ext}
-use mathlib.Core.Bool.{Bool, true, false, not, false≢true}
-use mathlib.Core.Logic.{_⊎_, inl, inr}
+use mathlib.Core.Bool.{false, false≢true}
 use mathlib.Core.List.{List, []}
 use native.Mathlib.Omega.{arith}
 use lib.ListN.{length}
-use lib.Dec.{eqb, leb, ltb}
+use lib.Dec.{eqb}
 use borrow.Author.Tests.{le-ltb, eq-eqb, ne-eqb}
 use Rattle.format.specs.Numbers.{small, shape, badHead, headKind, edgesKind, trianglesKind, tetrahedraKind}
-use Rattle.format.specs.Simplex.{Simplex, SimplexSet, listed, simplices}
+use Rattle.format.specs.Simplex.{Simplex, listed, simplices}
 use Rattle.format.specs.Simplex as format
-use Rattle.format.specs.Reading.{Reading, accepted, refused, _andThen_, Listing, Chosen, readList, readChain, readEdits, readHead, afterHead, afterLists, reading, recordAt, headFits, payloadAt, chainDimension, questionOf}
+use Rattle.format.specs.Reading.{Reading, _andThen_, accepted, refused, Listing, Chosen, readList, readChain, readEdits, readHead, afterHead, afterLists, reading, headFits, payloadAt, chainDimension, questionOf}
 use Rattle.format.specs.Reading as reader
 use Rattle.format.specs.Opened.{opened, record-opened, opened-inside, payload-long}
-use Rattle.format.specs.Sound.{SoundList, SoundComplex}
-use Rattle.format.specs.Accepted.{head-sound, list-sound, edits-vertices}
-use Rattle.format.specs.Marks.{Once, simplices-once}
+use Rattle.format.specs.Sound.{SoundComplex}
+use Rattle.format.specs.Accepted.{head-sound, list-sound}
+use Rattle.format.specs.Marks.{simplices-once}
 use Rattle.format.specs.Answer.{rows}
 use Rattle.lists.specs.Verdicts.{readingOf, reading-then, told}
 use Rattle.lists.specs.declared.Verdict.{Verdict}
@@ -26,7 +25,7 @@ use Rattle.heads.specs.declared.Head.{Head}
 use Rattle.heads.specs.declared.HeadRead.{HeadRead}
 use Rattle.heads.specs.declared.HeadRead.the-variants.{Sound}
 use Rattle.heads.specs.Meaning.{headOf, headReading, HeadKnown}
-use Rattle.lookup.specs.Indexed.{Proper, Indexed}
+use Rattle.lookup.specs.Indexed.{Indexed}
 use Rattle.lookup.specs.IndexLaws.{sound-proper, proper-none}
 use Rattle.lookup.specs.Numbered.{simplicesIn}
 use Rattle.reading_lists.specs.Items.{FacesIn}
@@ -35,7 +34,7 @@ use Rattle.stages.specs.declared.ListRead.{ListRead}
 use Rattle.complexes.specs.Meaning.{jobOf, complexOf, Marked}
 use Rattle.complexes.specs.declared.Complex.{Complex}
 use Rattle.complexes.specs.declared.Job.{Job}
-use Rattle.lent_lists.specs.Held.{complexIn, Held, EditsHeld}
+use Rattle.lent_lists.specs.Held.{complexIn, EditsHeld}
 use Rattle.lent_lists.specs.declared.Edited.{Edited}
 use Rattle.chain_stage.specs.Meaning.{ChainStageRead}
 use Rattle.chain_stage.specs.declared.ChainStage.{ChainStage}

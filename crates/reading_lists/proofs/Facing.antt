@@ -1,6 +1,6 @@
 -- Rule 8 over the items that were taken: where none lacks a facet it owes, what was told when they were taken stands, and the
 -- first that does is refused at its own place. So the rule may wait until all of them are taken.
-use Prim.Native.Nat.{ℕ, zero, suc, _+_, _-_, _*_, _≤_, _<_}
+use Prim.Native.Nat.{ℕ, zero, suc, _+_, _*_, _≤_, _<_}
 use native.Mathlib.Nat.{mul-zero, mul-suc}
 use native.Mathlib.Omega.{arith}
 use mathlib.Core.Path.{_≡_, refl, sym, ap, _∙_, subst}

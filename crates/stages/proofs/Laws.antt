@@ -11,7 +11,7 @@ use lib.Dec.{eqb}
 use borrow.Author.Tests.{eq-eqb, ne-eqb, le-leb, lt-leb}
 use Rattle.format.specs.Numbers.{small, cut, wrongKind, shape, headerBytes}
 use Rattle.format.specs.Simplex.{Simplex}
-use Rattle.format.specs.Reading.{Reading, accepted, refused, _andThen_, Listing, ended, broken, whole, headerAt, payloadAt, listFits, readItems, itemsOf, readList}
+use Rattle.format.specs.Reading.{Reading, _andThen_, accepted, refused, Listing, ended, broken, whole, headerAt, payloadAt, listFits, readItems, itemsOf, readList}
 use Rattle.format.specs.Opened.{openedFrom, opened, record-opened, opened-inside, payload-long}
 use Rattle.format.specs.Sound.{AllSound}
 use Rattle.lists.specs.declared.Verdict.{Verdict}

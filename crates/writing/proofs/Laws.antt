@@ -8,7 +8,7 @@ use native.Mathlib.Omega.{arith}
 use native.Mathlib.Nat.{zero-add}
 use lib.ListN.{length, take, drop, length-take}
 use Rattle.format.specs.Numbers.{small, room}
-use Rattle.format.specs.Reading.{Reading, accepted, refused, reading, questionByte, questionOf, chainDimension}
+use Rattle.format.specs.Reading.{accepted, refused, reading, questionByte, questionOf, chainDimension}
 use Rattle.format.specs.Reading as reader
 use Rattle.format.specs.Answer.{rows, rowDimension}
 use Rattle.format.specs.Writing.{placesFrom, normalForm}

@@ -1,13 +1,12 @@
 -- `jobs::read_lists` meets its contract: each list is read over the one below, which is entered and known to be sound.
 -- Assumes nothing.
-use Prim.Native.Nat.{ℕ, _≤_}
-use mathlib.Core.Path.{_≡_, sym, _∙_, ap, subst}
+use Prim.Native.Nat.{ℕ}
+use mathlib.Core.Path.{_≡_, sym, subst}
 use mathlib.Core.List.{List, []}
 use native.Mathlib.Omega.{arith}
-use lib.ListN.{length}
 use Rattle.format.specs.Numbers.{small}
 use Rattle.format.specs.Simplex.{Simplex}
-use Rattle.format.specs.Reading.{Listing, accepted, readList}
+use Rattle.format.specs.Reading.{accepted, readList}
 use Rattle.lookup.specs.Indexed.{Indexed}
 use Rattle.lookup.specs.IndexLaws.{zeros-blank}
 use Rattle.lookup.specs.Numbered.{simplicesIn}
