@@ -1,12 +1,11 @@
 // Simplices, the lists of a complex, chains as marks by rank, and the verdicts on a job.
 ghost use mathlib.Core.Path.{_≡_};
-ghost use Prim.Native.Nat.{_+_, _-_, _≤_, _<_, min};
+ghost use Prim.Native.Nat.{_+_, _≤_, min};
 ghost use mathlib.Core.Bool.{false};
 ghost use mathlib.Core.List.{[]};
 ghost use lib.ListN.{length, take, drop, getD, replicate};
 ghost use Rattle.format.specs.Simplex as format;
-ghost use Rattle.format.specs.Reading.{without, moved};
-ghost use Rattle.lists.specs.Meaning.{verticesOf, simplicesOf, rankOf};
+ghost use Rattle.lists.specs.Meaning.{verticesOf, simplicesOf};
 ghost use Rattle.lists.specs.Moved.{MovedList, MovedMarks, Toward};
 
 // A simplex: its vertices stand first in the array, one more of them than the dimension.
@@ -97,40 +96,6 @@ impl Simplex {
             self.vertices[place]
         } else {
             0
-        }
-    }
-
-    // The vertex at a place of the facet without vertex number `skip`, 0 past the last.
-    fn kept(self, skip: usize, place: usize) -> u16
-        requires { ⌜ place < 4 ⌝ }
-        ensures { λ r. ⌜ r ≡ getD (without skip (verticesOf self)) place 0 ⌝ }
-    {
-        if place < skip {
-            self.vertex(place)
-        } else {
-            self.vertex(place + 1)
-        }
-    }
-
-    // The facet that leaves out vertex number `skip`. A vertex alone has no facet that a struct could hold.
-    pub fn facet(self, skip: usize) -> Self
-        ensures { λ r. ⌜ (1 < length (verticesOf self) → verticesOf r ≡ without skip (verticesOf self)) ⌝ }
-    {
-        let size = self.size();
-        if size < 2 {
-            return self;
-        }
-        if size <= skip {
-            return self;
-        }
-        Self {
-            vertices: [
-                self.kept(skip, 0),
-                self.kept(skip, 1),
-                self.kept(skip, 2),
-                self.kept(skip, 3),
-            ],
-            dim: (size - 2) as u16,
         }
     }
 }
