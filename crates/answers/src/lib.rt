@@ -1,5 +1,6 @@
 // Answer records: a refusal, or a chain's members in rising rank.
 use lists::Simplex;
+use records::Header;
 ghost use mathlib.Core.Path.{_≡_};
 ghost use Prim.Native.Nat.{_+_, _≤_, _<_};
 ghost use lib.ListN.{length, set};
@@ -15,8 +16,8 @@ pub fn put_refusal(out: &mut [u8], number: u16, place: usize) -> usize
     requires { ⌜ 12 ≤ length (now out) ⌝ }
     ensures { λ r. ⌜ Put (now (out .entry)) 0 (refusalRecord number place) (now (out .exit)) r ⌝ }
 {
-    writer::put_header(out, 0, 17, 6);
-    writer::put_u16(out, 6, number as usize);
+    writer::put_header(out, 0, Header::REFUSAL as usize, 6);
+    writer::put_u16(out, Header::BYTES, number as usize);
     writer::put_u16(out, 8, place % 65536);
     writer::put_u16(out, 10, place / 65536);
     12
@@ -75,7 +76,7 @@ pub fn put_chain(out: &mut [u8], d: u8, keys: &[u64], n: usize, size: usize, col
     ensures { λ r. ⌜ Put (now (out .entry)) 0 (chainBytes d (chainOf (now (col .entry))) (simplicesIn size (now (keys .entry)) n)) (now (out .exit)) r ⌝ }
 {
     let next = put_members(out, 7, keys, n, size, col);
-    put_byte(out, 6, d);
-    writer::put_header(out, 0, 16, next - 6);
+    put_byte(out, Header::BYTES, d);
+    writer::put_header(out, 0, Header::ANSWER as usize, next - Header::BYTES);
     next
 }

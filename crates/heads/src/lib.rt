@@ -43,13 +43,13 @@ impl Head {
 pub fn may_ask(question: usize, d: usize) -> bool
     ensures { λ r. ⌜ r ≡ ((eqb question 1 || eqb question 2) && dimensionFits (questionOf question) d) ⌝ }
 {
-    if question == 1 {
+    if question == Head::FILL as usize {
         if d == 0 {
             return false;
         }
         return d <= 3;
     }
-    if question == 2 {
+    if question == Head::CLASS as usize {
         return d <= 2;
     }
     false

@@ -38,7 +38,7 @@ impl JobRead {
         JobRead {
             verdict: Verdict::Refused(number, place),
             job: Job {
-                head: Head::new(1, 1, 0),
+                head: Head::new(Head::FILL, 1, 0),
                 complex: Complex::empty(),
                 marks: Marks::none(),
             },
@@ -61,7 +61,7 @@ impl NumbersRead {
     {
         NumbersRead {
             verdict: Verdict::Refused(number, place),
-            head: Head::new(1, 1, 0),
+            head: Head::new(Head::FILL, 1, 0),
             counts: Counts::none(),
             marks: Marks::none(),
         }

@@ -66,6 +66,11 @@ impl Verdict {
     pub const NO_FILLING: u16 = 13;
 
     pub const ROOM: u16 = 14;
+
+    // the answer call is refused with 14 where less is lent: bytes of output, and of work memory
+    pub const ROOM_OUT: usize = 2055;
+
+    pub const ROOM_WORK: usize = 65536;
 }
 
 impl Simplex {

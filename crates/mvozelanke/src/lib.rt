@@ -12,11 +12,11 @@ pub extern "C" fn mvz_answer(job: &[u8], out: &mut [u8], work: &mut [u8]) -> usi
     ensures { λ r. ⌜ AnswerPromise small (now (job .entry)) (now (out .entry)) (now (work .entry)) r (now (out .exit)) (now (work .exit)) ⌝ }
 {
     let room = out.len();
-    if room < 2055 {
+    if room < Verdict::ROOM_OUT {
         return 0;
     }
     let memory = work.len();
-    if memory < 65536 {
+    if memory < Verdict::ROOM_WORK {
         return 0;
     }
     let mut e_keys = [0u64; SimplexList::LIMIT];

@@ -18,6 +18,11 @@ pub enum Header {
 impl Header {
     // A record's header: four bytes of length, two of kind.
     pub const BYTES: usize = 6;
+
+    // The kinds of the answer records: a chain, a refusal. Those of a job stand with what reads them.
+    pub const ANSWER: u16 = 16;
+
+    pub const REFUSAL: u16 = 17;
 }
 
 // One byte.

@@ -1,9 +1,11 @@
 // The job writer: puts the normal form of a job into lent bytes, piece behind piece.
+use chosen::ChainRead;
 use complexes::Job;
 use heads::Head;
 use lists::Marks;
 use lists::Simplex;
 use lists::SimplexList;
+use records::Header;
 ghost use mathlib.Core.Path.{_≡_};
 ghost use Prim.Native.Nat.{_+_, _≤_};
 ghost use lib.ListN.{length, take};
@@ -94,7 +96,7 @@ pub fn put_list_record(out: &mut [u8], at: usize, kind: u16, list: SimplexList) 
     requires { ⌜ at + length (recordOf kind (listBytes (simplicesOf list))) ≤ length (now out) ⌝ }
     ensures { λ r. ⌜ Put (now (out .entry)) at (recordOf kind (listBytes (simplicesOf list))) (now (out .exit)) r ⌝ }
 {
-    let start = at + 6;
+    let start = at + Header::BYTES;
     let next = put_list(out, start, list);
     put_header(out, at, kind as usize, next - start);
     next
@@ -105,9 +107,9 @@ pub fn put_chain_record(out: &mut [u8], at: usize, marks: Marks, n: usize) -> us
     requires { ⌜ (n ≤ 512) × (at + length (recordOf 5 (markBytes n (marks .on))) ≤ length (now out)) ⌝ }
     ensures { λ r. ⌜ Put (now (out .entry)) at (recordOf 5 (markBytes n (marks .on))) (now (out .exit)) r ⌝ }
 {
-    let start = at + 6;
+    let start = at + Header::BYTES;
     let next = put_marks(out, start, marks, n);
-    put_header(out, at, 5, next - start);
+    put_header(out, at, ChainRead::CHAIN as usize, next - start);
     next
 }
 
@@ -116,8 +118,12 @@ pub fn put_head(out: &mut [u8], head: Head) -> usize
     requires { ⌜ 10 ≤ length (now out) ⌝ }
     ensures { λ r. ⌜ Put (now (out .entry)) 0 (headRecord head) (now (out .exit)) r ⌝ }
 {
-    put_header(out, 0, 1, 4);
-    put_u16(out, 6, head.question as usize + 256 * (head.d as usize));
+    put_header(out, 0, Head::KIND as usize, Head::BYTES);
+    put_u16(
+        out,
+        Header::BYTES,
+        head.question as usize + 256 * (head.d as usize),
+    );
     put_u16(out, 8, head.v as usize);
     10
 }

@@ -10,6 +10,9 @@ put-members-requires c κs = search needs
 put-byte-requires : tie.Need-put-byte-requires
 put-byte-requires c κs = search needs
 
+cast-put-header : tie.Need-cast-put-header
+cast-put-header c = search needs
+
 sub-put-header : tie.Need-sub-put-header
 sub-put-header c = search needs
 
@@ -33,6 +36,7 @@ put-chain-spec =
     (tie.spec
     put-members-requires
     put-byte-requires
+    cast-put-header
     sub-put-header
     put-header-requires
     same-length

@@ -5,6 +5,9 @@ use borrow.Author.Needs.{needs}
 use Rattle.answers.proofs.put_refusal.Statement.{statement}
 use Rattle.answers.proofs.put_refusal.Tie as tie
 
+cast-put-header : tie.Need-cast-put-header
+cast-put-header c = search needs
+
 put-header-requires : tie.Need-put-header-requires
 put-header-requires c κs = search needs
 
@@ -29,6 +32,7 @@ pub put-refusal-spec : {M : Type 1} → statement M
 put-refusal-spec =
     tie.close
     (tie.spec
+    cast-put-header
     put-header-requires
     put-u16-requires
     put-u16-requires-2

@@ -12,6 +12,9 @@ add-start c = search needs
 put-marks-requires : tie.Need-put-marks-requires
 put-marks-requires c κs = search needs
 
+cast-put-header : tie.Need-cast-put-header
+cast-put-header c = search needs
+
 sub-put-header : tie.Need-sub-put-header
 sub-put-header c = search needs
 
@@ -29,4 +32,4 @@ returns c =
 pub put-chain-record-spec : {M : Type 1} → statement M
 put-chain-record-spec =
     tie.close
-    (tie.spec add-start put-marks-requires sub-put-header put-header-requires same-length returns)
+    (tie.spec add-start put-marks-requires cast-put-header sub-put-header put-header-requires same-length returns)

@@ -5,6 +5,9 @@ use borrow.Author.Needs.{needs}
 use Rattle.writer.proofs.put_head.Statement.{statement}
 use Rattle.writer.proofs.put_head.Tie as tie
 
+cast-put-header : tie.Need-cast-put-header
+cast-put-header c = search needs
+
 put-header-requires : tie.Need-put-header-requires
 put-header-requires c κs = search needs
 
@@ -41,6 +44,7 @@ pub put-head-spec : {M : Type 1} → statement M
 put-head-spec =
     tie.close
     (tie.spec
+    cast-put-header
     put-header-requires
     cast-put-u16
     cast-put-u16-2
