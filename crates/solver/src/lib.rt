@@ -67,8 +67,8 @@ fn write_column(col: &mut [u8], sides: u64, size: usize, own: usize)
     flip(col, own);
 }
 
-// Puts the next column into the slots. Where the slot of its highest row is not taken, which is so for most columns,
-// the column belongs there as it is: it is written there at once, and nothing is searched, reduced or copied.
+// Puts the next column into the slots. Where the slot of its highest row is not taken, the column belongs there as it is:
+// it is written there at once, and nothing is searched, reduced or copied.
 fn put_column(
     work: &mut [u8],
     cur: &mut [u8],
