@@ -5,8 +5,8 @@ ghost use lib.Dec.{eqb};
 ghost use lib.ListN.{length};
 ghost use Rattle.keys.specs.Chained.{Chained, Linked, lastBelow};
 
-// How many buckets the keys are spread over: the largest prime below twice a list's limit. The numbers of a mesh go up in regular
-// steps, which a prime has no divisor in common with; what was measured is told in decision 15.
+// How many buckets the keys are spread over: the largest prime below twice a list's limit. Which prime suits best depends on the
+// mesh; decision 15 has what was measured.
 pub const BUCKETS: usize = 1021;
 
 // One more than the place of a key among the first n, 0 where it is not there.
