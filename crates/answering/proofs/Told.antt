@@ -8,11 +8,12 @@ use native.Mathlib.Omega.{arith}
 use lib.Dec.{leb}
 use borrow.Author.Tests.{eq-eqb, ne-eqb, leb-true}
 use lib.ListN.{length, getD}
-use Rattle.chains.specs.Chain.{Chain, empty, boundary, SmallestFilling, SmallestInClass, Fills}
+use Rattle.chains.specs.Chain.{Chain, boundary, SmallestFilling, SmallestInClass, Fills}
 use Rattle.format.specs.Numbers.{small, rimOpen, noFilling}
 use Rattle.format.specs.Simplex.{Simplex, Complex, simplices, lower, columns}
 use Rattle.format.specs.Reading.{Job, Question, fill, class, questionOf, dimensionFits, chainDimension}
 use Rattle.format.specs.Listed.{and-true}
+use Rattle.format.specs.Rims.{filled-closed}
 use Rattle.format.specs.Answer.{rowDimension, rows, cols, matrix, askedChain, rim, FillAnswer, open-rim, unfilled, patch, AnswerTo, refusalRecord, chainRecord}
 use Rattle.lent_lists.specs.Held.{complexIn}
 use Rattle.jobs.specs.Meaning.{Asking, jobIn}
@@ -47,19 +48,35 @@ module _ {read : NumbersRead} {eKeys tKeys sKeys tSides sSides : List ℕ}
   same-asked : asked (rows j) (read .marks) ≡ askedChain j
   same-asked = ap (λ m i. getD m i false) (k .marks .marks)
 
-  -- whether its rim is empty
-  module _ {closed : Bool} (told : RimTold (lower X dim) (simplices X dim) (read .marks) closed) where
-    same-rim : rimOf (lower X dim) (simplices X dim) (read .marks) ≡ rim j
-    same-rim =
-        ap₂ (λ (l r : List Simplex). rimOf l r (read .marks)) same-lower same-rows
-        ∙ ap (boundary (columns (lower X (rowDimension j)) (rows j)) (length (rows j))) same-asked
+  -- A is to be filled
+  module _ (q : questionOf (read .head .question) ≡ fill) where
+    asks-fill : (answer : List ℕ) → FillAnswer j answer → AnswerTo j (j .question) answer
+    asks-fill answer a = subst (λ x. AnswerTo j x answer) (sym q) a
 
-    rim-empty : closed ≡ true → rim j ≡ empty
-    rim-empty e = sym same-rim ∙ told .is-closed e
+    -- the solver found a filling, so the rim is empty
+    pub answers-patch : (x : Chain) {before after : List ℕ} {count : ℕ} {l : List Simplex} → l ≡ simplices X (dim + 1)
+        → FillSays (simplices X dim) (simplices X (dim + 1)) (read .marks) filled.Found x
+        → Put before 0 (chainBytes (read .head .d) x l) after count → Answers j before after count
+    answers-patch x {before} {after} {count} same says put =
+        let found = subst₂ (λ (r c : List Simplex). FillSays r c (read .marks) filled.Found x) same-rows same-cols says in
+        let smallest : SmallestFilling (matrix j) (length (cols j)) (askedChain j) x =
+        subst (λ A. SmallestFilling (matrix j) (length (cols j)) A x) same-asked found in
+        let bytes =
+        ap (chainBytes (read .head .d) x) same
+        ∙ chain-bytes X (k .held .sound) (dim + 1) (read .head .d) x
+        ∙ ap (λ (m : List Simplex). chainRecord (read .head .d) m x) same-cols in
+        record {
+          answer = chainRecord (j .d) (cols j) x;
+          is = asks-fill _ (patch (filled-closed small j (k .sound) x (smallest .has)) x smallest refl);
+          put = subst (λ b. Put before 0 b after count) bytes put;
+        }
 
-    module _ (q : questionOf (read .head .question) ≡ fill) where
-      asks-fill : (answer : List ℕ) → FillAnswer j answer → AnswerTo j (j .question) answer
-      asks-fill answer a = subst (λ x. AnswerTo j x answer) (sym q) a
+    -- it found none, and then it was asked whether the rim is empty
+    module _ {closed : Bool} (told : RimTold (lower X dim) (simplices X dim) (read .marks) closed) where
+      same-rim : rimOf (lower X dim) (simplices X dim) (read .marks) ≡ rim j
+      same-rim =
+          ap₂ (λ (l r : List Simplex). rimOf l r (read .marks)) same-lower same-rows
+          ∙ ap (boundary (columns (lower X (rowDimension j)) (rows j)) (length (rows j))) same-asked
 
       pub answers-open : {before after : List ℕ} {count : ℕ} → closed ≡ false → Put before 0 (refusalRecord rimOpen 0) after count
           → Answers j before after count
@@ -69,32 +86,17 @@ module _ {read : NumbersRead} {eKeys tKeys sKeys tSides sSides : List ℕ}
         put = put;
       }
 
-      -- it is, and this is what the solver found
-      module _ (e : closed ≡ true) (x : Chain) where
-        pub answers-unfilled : {before after : List ℕ} {count : ℕ} → FillSays (simplices X dim) (simplices X (dim + 1)) (read .marks) filled.None x
-            → Put before 0 (refusalRecord noFilling 0) after count → Answers j before after count
-        answers-unfilled says put =
-            let none = subst₂ (λ (r c : List Simplex). FillSays r c (read .marks) filled.None x) same-rows same-cols says in
-            record {
-              answer = refusalRecord noFilling 0;
-              is = asks-fill _ (unfilled (rim-empty e) (λ other f. none other (subst (λ A. Fills (matrix j) (length (cols j)) A other) (sym same-asked) f)) refl);
-              put = put;
-            }
-
-        pub answers-patch : {before after : List ℕ} {count : ℕ} {l : List Simplex} → l ≡ simplices X (dim + 1)
-            → FillSays (simplices X dim) (simplices X (dim + 1)) (read .marks) filled.Found x
-            → Put before 0 (chainBytes (read .head .d) x l) after count → Answers j before after count
-        answers-patch {before} {after} {count} same says put =
-            let smallest = subst₂ (λ (r c : List Simplex). FillSays r c (read .marks) filled.Found x) same-rows same-cols says in
-            let bytes =
-            ap (chainBytes (read .head .d) x) same
-            ∙ chain-bytes X (k .held .sound) (dim + 1) (read .head .d) x
-            ∙ ap (λ (m : List Simplex). chainRecord (read .head .d) m x) same-cols in
-            record {
-              answer = chainRecord (j .d) (cols j) x;
-              is = asks-fill _ (patch (rim-empty e) x (subst (λ A. SmallestFilling (matrix j) (length (cols j)) A x) same-asked smallest) refl);
-              put = subst (λ b. Put before 0 b after count) bytes put;
-            }
+      pub answers-unfilled : (x : Chain) {before after : List ℕ} {count : ℕ} → closed ≡ true
+          → FillSays (simplices X dim) (simplices X (dim + 1)) (read .marks) filled.None x
+          → Put before 0 (refusalRecord noFilling 0) after count → Answers j before after count
+      answers-unfilled x e says put =
+          let none = subst₂ (λ (r c : List Simplex). FillSays r c (read .marks) filled.None x) same-rows same-cols says in
+          record {
+            answer = refusalRecord noFilling 0;
+            is = asks-fill _
+                (unfilled (sym same-rim ∙ told .is-closed e) (λ other f. none other (subst (λ A. Fills (matrix j) (length (cols j)) A other) (sym same-asked) f)) refl);
+            put = put;
+          }
 
   pub answers-class : {before after : List ℕ} {count : ℕ} {l : List Simplex} (x : Chain) → questionOf (read .head .question) ≡ class → l ≡ simplices X dim
       → ClassTold (simplices X dim) (simplices X (dim + 1)) (read .marks) x → Put before 0 (chainBytes (read .head .d) x l) after count

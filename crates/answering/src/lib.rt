@@ -73,7 +73,8 @@ fn rim_closed<'a>(
     solver::rim_closed(&mut cur, m, sides, n, low + 2, marks, 64)
 }
 
-// Fills A, of dimension `dim`: the patch, or refusal 12 or 13.
+// Fills A, of dimension `dim`: the patch, or refusal 12 or 13. What has a filling has a closed rim, so the rim is looked at only
+// where none was found.
 fn answer_fill<'a>(
     out: &mut [u8],
     work: &mut [u8],
@@ -92,10 +93,6 @@ fn answer_fill<'a>(
     requires { ⌜ 65536 ≤ length (now work) ⌝ }
     ensures { λ r. ⌜ ((k : Asking read (now («e_keys» .entry)) (now («t_keys» .entry)) (now («s_keys» .entry)) (now («t_sides» .entry)) (now («s_sides» .entry))) → Answers (jobIn read (now («e_keys» .entry)) (now («t_keys» .entry)) (now («s_keys» .entry)) (k .set)) (now (out .entry)) (now (out .exit)) r) ⌝ }
 {
-    let closed = rim_closed(read, dim, e_keys, t_keys, s_keys, t_sides, s_sides);
-    if !closed {
-        return answers::put_refusal(out, Verdict::RIM_OPEN, 0);
-    }
     let head = read.head;
     let counts = read.counts;
     let marks = read.marks;
@@ -105,11 +102,17 @@ fn answer_fill<'a>(
     let mut cur = [0u8; 128];
     let filled = solver::fill(work, &mut cur, m, sides, n, dim + 2, marks, 64);
     match filled {
-        Filled::None => answers::put_refusal(out, Verdict::NO_FILLING, 0),
         Filled::Found => {
             let cols = numbers_of(dim + 1, e_keys, t_keys, s_keys);
             let half = 64;
             answers::put_chain(out, head.d, cols, n, dim + 2, &cur[half..])
+        }
+        Filled::None => {
+            let closed = rim_closed(read, dim, e_keys, t_keys, s_keys, t_sides, s_sides);
+            if !closed {
+                return answers::put_refusal(out, Verdict::RIM_OPEN, 0);
+            }
+            answers::put_refusal(out, Verdict::NO_FILLING, 0)
         }
     }
 }
