@@ -137,6 +137,7 @@ module _ {v : ℕ} {c : Counts} {eKeys tKeys sKeys tSides sSides : List ℕ} (he
         count = columns-are;
         wide = λ i lt. proper-list X (held .sound) (dim + 1) .wide i (omega arith) ∙ omega arith;
         some = omega arith;
+        most = omega arith;
         rising = λ i lt. rising-list X (held .sound) (dim + 1) i (omega arith);
         sided =
             subst₂ (λ (k : ℕ) (a : List ℕ). Sided (simplices X dim) (simplices X k) a n) up

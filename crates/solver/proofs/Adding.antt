@@ -1,14 +1,13 @@
--- The loop that adds the facets of a simplex, one by one: what is in hand, together with the facets that are left, is
--- always what was in hand with all facets. Each facet turns its rank over, which is the lowest digit of the sides of those
--- that are left.
-use Prim.Native.Nat.{ℕ, _-_, _*_, _≤_, _<_}
+-- The facets of a simplex are added one by one: what is in hand, together with the facets that are left, is always what was
+-- in hand with all facets. Each facet turns its rank over, which is the lowest digit of the sides of those that are left.
+use Prim.Native.Nat.{ℕ, _-_, _*_, _/_, _%_, _≤_, _<_}
 use native.Mathlib.Omega.{arith}
 use mathlib.Core.Path.{_≡_, refl, sym, ap, _∙_, subst, fun-ext}
 use mathlib.Core.List.{List, []}
 use lib.ListN.{length, getD}
 use Rattle.chains.specs.Chain.{Chain, _⊕_}
 use Rattle.chains.specs.Sum.{sum-assoc, sum-empty}
-use Rattle.format.specs.Simplex.{Simplex, ranked, rank, simplexBoundary}
+use Rattle.format.specs.Simplex.{Simplex, simplexBoundary}
 use Rattle.format.specs.Reading.{without}
 use Rattle.format.specs.Listed.{rank-stands}
 use Rattle.columns.specs.Column.{flipped}
@@ -16,6 +15,7 @@ use Rattle.columns.specs.ColumnLaws.{length-flipped}
 use Rattle.columns.specs.Slot.{chainR, chainV}
 use Rattle.columns.specs.PairLaws.{flipped-R, flipped-R-keeps}
 use Rattle.lookup.specs.Sides.{Sides}
+use Rattle.lookup.specs.SidesLaws.{sides-last}
 use Rattle.solver.specs.Columns.{MatrixIn, AddsBoundary}
 use Rattle.solver.proofs.Facets.{leftOver, all-left, none-left, last-left}
 
@@ -51,25 +51,25 @@ module _ {rows : List Simplex} {s : Simplex} {start cur : List ℕ} {left sides 
     keeps = a .keeps;
   }
 
-  -- One facet, which has rank i, as the last of the sides says: what stands in hand after it is the chain before it with
-  -- that rank turned over.
-  module _ (some : 0 < left) {i others : ℕ}
-      (taken : (rank (without (left - 1) s) rows ≡ ranked i) × Sides rows s (left - 1) others) where
-    rank-below : i < length rows
-    rank-below = rank-stands (without (left - 1) s) rows i (taken .0) .below
+  -- One facet, whose rank is the lowest digit of the sides: what stands in hand after it is the chain before it with that
+  -- rank turned over.
+  module _ (some : 0 < left) where
+    rank-below : sides % 65536 < length rows
+    rank-below = rank-stands (without (left - 1) s) rows (sides % 65536) (sides-last (a .sided) some .0) .below
 
-    pub adding-on : {after : List ℕ} → after ≡ flipped cur i → Adding rows s start after (left - 1) others
+    pub adding-on : {after : List ℕ} → after ≡ flipped cur (sides % 65536) → Adding rows s start after (left - 1) (sides / 65536)
     adding-on {after} put = record {
-      long = ap length put ∙ length-flipped cur i ∙ a .long;
-      sided = taken .1;
+      long = ap length put ∙ length-flipped cur (sides % 65536) ∙ a .long;
+      sided = sides-last (a .sided) some .1;
       rest = λ h whole fits.
           ap (λ (l : List ℕ). chainR h l ⊕ leftOver rows s (left - 1)) put
-          ∙ ap (λ (c : Chain). c ⊕ leftOver rows s (left - 1)) (flipped-R h cur (a .long ∙ whole) i (omega (arith, rank-below)))
+          ∙ ap (λ (c : Chain). c ⊕ leftOver rows s (left - 1))
+          (flipped-R h cur (a .long ∙ whole) (sides % 65536) (omega (arith, rank-below)))
           ∙ sum-assoc (chainR h cur) _ _
-          ∙ ap (λ (c : Chain). chainR h cur ⊕ c) (sym (last-left rows s left some (taken .0)))
+          ∙ ap (λ (c : Chain). chainR h cur ⊕ c) (sym (last-left rows s left some (sides-last (a .sided) some .0)))
           ∙ a .rest h whole fits;
       keeps = λ h whole fits.
           ap (chainV h) put
-          ∙ flipped-R-keeps h cur (a .long ∙ whole) i (omega (arith, rank-below))
+          ∙ flipped-R-keeps h cur (a .long ∙ whole) (sides % 65536) (omega (arith, rank-below))
           ∙ a .keeps h whole fits;
     }

@@ -1,5 +1,5 @@
--- What the loops over the facets of a simplex share: the sum of those that are left, from which each turn takes the last
--- one, and that no two facets of a simplex are the same.
+-- What going through the facets of a simplex takes: the sum of those that are left, from which each step takes the last one,
+-- and that no two facets of a simplex are the same.
 use Prim.Native.Nat.{ℕ, zero, suc, _-_, _≤_, _<_}
 use native.Mathlib.Nat.{not-suc-le-zero}
 use native.Mathlib.Omega.{arith}

@@ -20,6 +20,7 @@ pub record MatrixIn (h size m : ℕ) (sides : List ℕ) (n : ℕ) : Type 0 where
   pub count : n ≡ length high
   pub wide : (i : ℕ) → i < n → length (getD high i []) ≡ size
   pub some : 0 < size
+  pub most : size ≤ 4
   pub rising : (i : ℕ) → i < n → risingFrom 0 (getD high i []) ≡ true
   pub sided : Sided rows high sides n
   pub few-rows : length rows ≤ 8 * h

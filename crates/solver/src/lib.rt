@@ -7,7 +7,7 @@
 ghost use mathlib.Core.Path.{_≡_};
 ghost use mathlib.Core.Bool.{true, false};
 ghost use mathlib.Core.List.{List};
-ghost use Prim.Native.Nat.{_*_, _≤_, _<_};
+ghost use Prim.Native.Nat.{_*_, _≤_, _<_, max};
 ghost use lib.ListN.{length, replicate};
 ghost use Rattle.columns.specs.Slot.{roomOf, chainR, chainV};
 ghost use Rattle.format.specs.Simplex.{Simplex, risingFrom};
@@ -25,42 +25,60 @@ use slots::class_in;
 use slots::fill_in;
 use slots::insert_column;
 
-// Adds the boundary of the simplex of `size` vertices that has these sides to the chain of rows in hand.
+// Adds the boundary of the simplex of `size` vertices that has these sides to the chain of rows in hand. A simplex
+// has four vertices at most, so its facets are taken off one after the other, which costs less than a loop over `size`.
 pub fn add_boundary(cur: &mut [u8], sides: u64, size: usize)
-    ensures { λ _. ⌜ ((rows : List Simplex) (s : Simplex) → length s ≡ size → Sides rows s size sides → AddsBoundary rows s (now (cur .entry)) (now (cur .exit))) ⌝ }
+    ensures { λ _. ⌜ ((rows : List Simplex) (s : Simplex) → length s ≡ size → 0 < size → size ≤ 4 → Sides rows s size sides → AddsBoundary rows s (now (cur .entry)) (now (cur .exit))) ⌝ }
 {
-    let mut rest = sides;
-    let mut left = size;
-    while 0 < left {
-        left -= 1;
-        let i = (rest % 65536) as usize;
-        rest = rest / 65536;
-        flip(cur, i);
+    flip(cur, (sides % 65536) as usize);
+    if size <= 1 {
+        return;
     }
+    let rest = sides / 65536;
+    flip(cur, (rest % 65536) as usize);
+    if size <= 2 {
+        return;
+    }
+    let rest = rest / 65536;
+    flip(cur, (rest % 65536) as usize);
+    if size <= 3 {
+        return;
+    }
+    flip(cur, (rest / 65536 % 65536) as usize);
+}
+
+// The higher of two ranks.
+fn higher(a: usize, b: usize) -> usize
+    ensures { λ r. ⌜ r ≡ max a b ⌝ }
+{
+    if a < b { b } else { a }
 }
 
 // The highest of the sides of a simplex of `size` vertices. No two facets of a simplex are the same, so no
 // other facet takes that row out of the boundary again: it is the highest row that the boundary holds.
 fn highest_side(sides: u64, size: usize) -> usize
-    ensures { λ top. ⌜ ((rows : List Simplex) (s : Simplex) → length s ≡ size → 0 < size → risingFrom 0 s ≡ true → Sides rows s size sides → HighestSide rows s top) ⌝ }
+    ensures { λ top. ⌜ ((rows : List Simplex) (s : Simplex) → length s ≡ size → 0 < size → size ≤ 4 → risingFrom 0 s ≡ true → Sides rows s size sides → HighestSide rows s top) ⌝ }
 {
-    let mut top = 0;
-    let mut others = sides;
-    let mut left = size;
-    while 0 < left {
-        left -= 1;
-        let i = (others % 65536) as usize;
-        others = others / 65536;
-        if top < i {
-            top = i;
-        }
+    let top = (sides % 65536) as usize;
+    if size <= 1 {
+        return top;
     }
-    top
+    let others = sides / 65536;
+    let top = higher(top, (others % 65536) as usize);
+    if size <= 2 {
+        return top;
+    }
+    let others = others / 65536;
+    let top = higher(top, (others % 65536) as usize);
+    if size <= 3 {
+        return top;
+    }
+    higher(top, (others / 65536 % 65536) as usize)
 }
 
 // Writes the column of a simplex over a pair of columns: its boundary, and its rank alone, the bit `own` of the pair.
 fn write_column(col: &mut [u8], sides: u64, size: usize, own: usize)
-    ensures { λ _. ⌜ ((rows : List Simplex) (s : Simplex) → length s ≡ size → Sides rows s size sides → WritesColumn rows s own (now (col .entry)) (now (col .exit))) ⌝ }
+    ensures { λ _. ⌜ ((rows : List Simplex) (s : Simplex) → length s ≡ size → 0 < size → size ≤ 4 → Sides rows s size sides → WritesColumn rows s own (now (col .entry)) (now (col .exit))) ⌝ }
 {
     clear(col);
     add_boundary(col, sides, size);

@@ -27,7 +27,7 @@ module _ (p : tie.After-highest-side) where
   highest : (k : Matrix) → HighestSide (k .rows) (getD (k .high) (begin .args .rank) []) (p .highest-side .result)
   highest k =
       let lt = begin .pre .1 .0 in
-      p .highest-side .ensures (k .rows) _ (k .wide _ lt) (k .some) (k .rising _ lt) (column-sides k lt)
+      p .highest-side .ensures (k .rows) _ (k .wide _ lt) (k .some) (k .most) (k .rising _ lt) (column-sides k lt)
 
   -- that row has a slot, and the slot its place among those that are taken
   row-low : p .highest-side .result < 8 * begin .args .h
@@ -50,14 +50,14 @@ module _ (p : tie.After-highest-side) where
 
   -- a pair of columns that it was written over holds it
   holds-column : (k : Matrix) {before after : List ℕ}
-      → ((rows : List Simplex) (s : Simplex) → length s ≡ begin .args .size
+      → ((rows : List Simplex) (s : Simplex) → length s ≡ begin .args .size → 0 < begin .args .size → begin .args .size ≤ 4
       → Sides rows s (begin .args .size) (getD (begin .args .sides .now) (begin .args .rank) 0)
       → WritesColumn rows s (8 * begin .args .h + begin .args .rank) before after)
       → length before ≡ 2 * begin .args .h
       → HoldsColumn (begin .args .h) (k .rows) (getD (k .high) (begin .args .rank) []) (begin .args .rank) after
   holds-column k written whole =
       let lt = begin .pre .1 .0 in
-      written (k .rows) _ (k .wide _ lt) (column-sides k lt) .column _ _ whole (k .few-rows) in-half refl
+      written (k .rows) _ (k .wide _ lt) (k .some) (k .most) (column-sides k lt) .column _ _ whole (k .few-rows) in-half refl
 
 mul-highest-side : tie.Need-mul-highest-side
 mul-highest-side c = search needs

@@ -67,7 +67,7 @@ loop-again c = λ k.
     let lt : turn .before .loop .i < length (k .high) = omega (arith, turn .loop-test .taken, k .count) in
     ⊎-elim
     (λ w. rimming-add _ _ _ _ a lt (w .0 .taken) (k .few-rows)
-    (w .3 .ensures _ _ (k .wide _ (turn .loop-test .taken)) (column-sides k (turn .loop-test .taken)))
+    (w .3 .ensures _ _ (k .wide _ (turn .loop-test .taken)) (k .some) (k .most) (column-sides k (turn .loop-test .taken)))
     (w .3 .kept .0) (w .6))
     (λ w. rimming-skip _ _ _ _ a lt (w .0 .left) (w .1))
     (c .if1 .came)

@@ -18,11 +18,11 @@ same-length : tie.Need-same-length
 same-length c = search needs
 
 returns : tie.Need-returns
-returns c = λ rows s sized sided.
+returns c = λ rows s sized some most sided.
     let flipped = c .before .before in
     let added = flipped .before .before .before .before in
     let cleared = added .before .before .before .before in
-    column-written (cleared .clear .ensures) (added .add-boundary .ensures rows s sized sided) (added .add-boundary .kept .0)
+    column-written (cleared .clear .ensures) (added .add-boundary .ensures rows s sized some most sided) (added .add-boundary .kept .0)
     (flipped .flip .ensures)
 
 pub write-column-spec : {M : Type 1} → statement M
