@@ -96,21 +96,13 @@ module _ {v : ℕ} {c : Counts} {eKeys tKeys sKeys tSides sSides : List ℕ} (he
   sides-in (suc (suc zero)) n le e = subst (Sided (X .triangles) (X .tetrahedra) sSides) (held .tetrahedra .count ∙ sym e) (held .tetrahedron-sides)
   sides-in (suc (suc (suc k))) n le e = absurd (omega arith)
 
-  numbers-room : (dim : ℕ) → 512 ≤ length (ofDimension dim eKeys tKeys sKeys)
-  numbers-room dim = each (eqb dim 2) (eqb dim 3)
-    where
-      each : (x y : Bool) → 512 ≤ length (cond x tKeys (cond y sKeys eKeys))
-      each true y = held .room .triangles
-      each false true = held .room .tetrahedra
-      each false false = held .room .edges
-
-  pub sides-room : (dim : ℕ) → 512 ≤ length (ofDimension dim eKeys tSides sSides)
-  sides-room dim = each (eqb dim 2) (eqb dim 3)
-    where
-      each : (x y : Bool) → 512 ≤ length (cond x tSides (cond y sSides eKeys))
-      each true y = held .room .triangle-sides
-      each false true = held .room .tetrahedron-sides
-      each false false = held .room .edges
+  -- and there is room for them
+  pub sides-fit : (dim n : ℕ) → dim ≤ 2 → n ≡ length (simplices X (suc dim)) → n ≤ length (ofDimension (suc dim) eKeys tSides sSides)
+  unfolding simplices
+  sides-fit zero n le e = omega (arith, e, held .room .edges)
+  sides-fit (suc zero) n le e = omega (arith, e, held .room .triangle-sides)
+  sides-fit (suc (suc zero)) n le e = omega (arith, e, held .room .tetrahedron-sides)
+  sides-fit (suc (suc (suc k))) n le e = absurd (omega arith)
 
   -- the numbers stand for the list: R is the array of the dimension, w its width
   pub numbers-list : (dim w n : ℕ) {R : List ℕ} → R ≡ ofDimension dim eKeys tKeys sKeys → w ≡ suc dim → 0 < dim → dim ≤ 3
@@ -122,8 +114,14 @@ module _ {v : ℕ} {c : Counts} {eKeys tKeys sKeys tSides sSides : List ℕ} (he
   numbers-list (suc (suc (suc zero))) w n r is some le e = ap₃ simplicesIn is r (e ∙ sym (held .tetrahedra .count))
   numbers-list (suc (suc (suc (suc k)))) w n r is some le e = absurd (omega arith)
 
-  pub numbers-fit : (dim n : ℕ) {R : List ℕ} → R ≡ ofDimension dim eKeys tKeys sKeys → n ≡ length (simplices X dim) → n ≤ length R
-  numbers-fit dim n r e = omega (arith, numbers-room dim, few-simplices X (held .sound) dim, ap length r)
+  -- and has room for it
+  pub numbers-fit : (dim n : ℕ) {R : List ℕ} → R ≡ ofDimension dim eKeys tKeys sKeys → 0 < dim → dim ≤ 3 → n ≡ length (simplices X dim) → n ≤ length R
+  unfolding simplices
+  numbers-fit zero n r some le e = absurd (omega arith)
+  numbers-fit (suc zero) n r some le e = omega (arith, e, ap length r, held .room .edges)
+  numbers-fit (suc (suc zero)) n r some le e = omega (arith, e, ap length r, held .room .triangles)
+  numbers-fit (suc (suc (suc zero))) n r some le e = omega (arith, e, ap length r, held .room .tetrahedra)
+  numbers-fit (suc (suc (suc (suc k)))) n r some le e = absurd (omega arith)
 
   -- the array S is that of the dimension
   unfoldable pub matrix-in : (dim m n : ℕ) {S : List ℕ} → S ≡ ofDimension (dim + 1) eKeys tSides sSides → dim ≤ 2
@@ -145,7 +143,12 @@ module _ {v : ℕ} {c : Counts} {eKeys tKeys sKeys tSides sSides : List ℕ} (he
             (sides-in dim n le (columns-are ∙ ap (λ (k : ℕ). length (simplices X k)) (sym up)));
         few-rows = few-simplices X (held .sound) dim;
         few-columns = few-simplices X (held .sound) (dim + 1);
-        room = omega (arith, sides-room (dim + 1), few-simplices X (held .sound) (dim + 1), ap length s);
+        room =
+            omega (
+              arith,
+              sides-fit dim n le (columns-are ∙ ap (λ (k : ℕ). length (simplices X k)) (sym up)),
+              ap length (s ∙ ap (λ (k : ℕ). ofDimension k eKeys tSides sSides) (sym up)),
+            );
       }
 
 -- the bytes of a chain's members are their vertices

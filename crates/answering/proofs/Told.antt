@@ -11,18 +11,20 @@ use lib.ListN.{length, getD}
 use Rattle.chains.specs.Chain.{Chain, boundary, SmallestFilling, SmallestInClass, Fills}
 use Rattle.format.specs.Numbers.{small, rimOpen, noFilling}
 use Rattle.format.specs.Simplex.{Simplex, Complex, simplices, lower, columns}
-use Rattle.format.specs.Reading.{Job, Question, fill, class, questionOf, dimensionFits, chainDimension}
+use Rattle.format.specs.Reading.{Reading, refused, reading, Job, Question, fill, class, questionOf, dimensionFits, chainDimension}
 use Rattle.format.specs.Listed.{and-true}
 use Rattle.format.specs.Rims.{filled-closed}
-use Rattle.format.specs.Answer.{rowDimension, rows, cols, matrix, askedChain, rim, FillAnswer, open-rim, unfilled, patch, AnswerTo, refusalRecord, chainRecord}
+use Rattle.format.specs.Answer.{rowDimension, rows, cols, matrix, askedChain, rim, FillAnswer, open-rim, unfilled, patch, AnswerTo, Answered, refusalRecord, chainRecord}
+use Rattle.lists.specs.declared.Verdict.the-variants.{Fine}
 use Rattle.lent_lists.specs.Held.{complexIn}
-use Rattle.jobs.specs.Meaning.{Asking, jobIn}
+use Rattle.jobs.specs.Meaning.{Asking, Told, jobIn}
+use Rattle.jobs.specs.Known.{told-accepted, told-asking}
 use Rattle.jobs.specs.declared.NumbersRead.{NumbersRead}
 use Rattle.solver.specs.Solved.{asked, rimOf, RimTold, FillSays, ClassTold}
 use Rattle.slots.specs.declared.Filled.the-variants as filled
 use Rattle.writer.specs.Meaning.{Put}
 use Rattle.answers.specs.Meaning.{chainBytes}
-use Rattle.answering.specs.Meaning.{Answers}
+use Rattle.answering.specs.Meaning.{Answers, AnswersFile}
 use Rattle.answering.proofs.Lists.{chain-bytes}
 
 module _ {read : NumbersRead} {eKeys tKeys sKeys tSides sSides : List ℕ}
@@ -113,6 +115,19 @@ module _ {read : NumbersRead} {eKeys tKeys sKeys tSides sSides : List ℕ}
             (record { chain = x; smallest = subst (λ A. SmallestInClass (matrix j) (length (cols j)) (length (rows j)) A x) same-asked known; is = refl });
         put = subst (λ b. Put before 0 b after count) bytes put;
       }
+
+-- A FILE is answered by the refusal of its reading, or as the job that was read is.
+module _ {b before after : List ℕ} {count : ℕ} where
+  pub file-refused : {n p : ℕ} → reading small b ≡ refused n p → Put before 0 (refusalRecord n p) after count → AnswersFile b before after count
+  file-refused {n} {p} e put = record { answer = refusalRecord n p; is = subst (λ (x : Reading Job). Answered x (refusalRecord n p)) (sym e) refl; put = put }
+
+  pub file-answered : {eKeys tKeys sKeys tSides sSides : List ℕ} {r : NumbersRead} → Told (reading small b) eKeys tKeys sKeys tSides sSides r → r .verdict ≡ Fine
+      → ((k : Asking r eKeys tKeys sKeys tSides sSides) → Answers (jobIn r eKeys tKeys sKeys (k .set)) before after count)
+      → AnswersFile b before after count
+  unfolding told-asking
+  file-answered {r = r} told fine answers =
+      let a = answers (told-asking b r told fine) in
+      record { answer = a .answer; is = subst (λ (x : Reading Job). Answered x (a .answer)) (sym (told-accepted b r told fine)) (a .is); put = a .put }
 
 -- THE QUESTION of a head, and the dimension of A.
 pub asks-filling : (q : ℕ) → q ≡ 1 → questionOf q ≡ fill

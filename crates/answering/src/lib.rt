@@ -1,4 +1,4 @@
-// Answers a job that was read into lent arrays: the sides of the asked dimension go to the solver, and its chain or its refusal
+// Answers a job: it is read into lent arrays, the sides of the asked dimension go to the solver, and its chain or its refusal
 // into the output.
 use jobs::NumbersRead;
 use lists::SimplexList;
@@ -11,9 +11,9 @@ ghost use Rattle.format.specs.Simplex.{vertexList, lower, simplices};
 ghost use Rattle.format.specs.Reading.{fill, class, chainDimension, questionOf};
 ghost use Rattle.lookup.specs.Numbered.{simplicesIn};
 ghost use Rattle.lent_lists.specs.Held.{complexIn, Held};
-ghost use Rattle.jobs.specs.Meaning.{Asking, jobIn};
+ghost use Rattle.jobs.specs.Meaning.{FileRoom, Asking, jobIn};
 ghost use Rattle.solver.specs.Solved.{RimTold};
-ghost use Rattle.answering.specs.Meaning.{Answers, ofDimension};
+ghost use Rattle.answering.specs.Meaning.{Answers, AnswersFile, ofDimension};
 
 // Of three lists' numbers, or sides, those of a dimension from 1 on.
 fn numbers_of<'a>(
@@ -156,7 +156,7 @@ fn answer_class<'a>(
 }
 
 // Answers a job: its question is a filling, or else a class.
-pub fn answer_job<'a>(
+fn answer_job<'a>(
     out: &mut [u8],
     work: &mut [u8],
     read: NumbersRead,
@@ -198,4 +198,37 @@ pub fn answer_job<'a>(
             s_sides,
         )
     }
+}
+
+// Answers a job file, any bytes of any length, with its lists in lent arrays that have room for them. Most jobs have no edits, so
+// these are looked for here: what is done for them stays out of the way of the others.
+pub fn answer_in(
+    job: &[u8],
+    out: &mut [u8],
+    work: &mut [u8],
+    e_keys: &mut [u64],
+    t_keys: &mut [u64],
+    s_keys: &mut [u64],
+    t_sides: &mut [u64],
+    s_sides: &mut [u64],
+) -> usize
+    requires { ⌜ (length (now job) ≤ 6690 → FileRoom (now job) 10 (now «e_keys») (now «t_keys») (now «s_keys») (now «t_sides») (now «s_sides»)) ⌝ }
+    requires { ⌜ 2055 ≤ length (now out) ⌝ }
+    requires { ⌜ 65536 ≤ length (now work) ⌝ }
+    ensures { λ r. ⌜ AnswersFile (now (job .entry)) (now (out .entry)) (now (out .exit)) r ⌝ }
+{
+    let read = jobs::read_unedited(job, e_keys, t_keys, s_keys, t_sides, s_sides);
+    let verdict = read.verdict;
+    if let Verdict::Refused(number, place) = verdict {
+        return answers::put_refusal(out, number, place);
+    }
+    if job.len() <= read.next {
+        return answer_job(out, work, read, e_keys, t_keys, s_keys, t_sides, s_sides);
+    }
+    let edited = jobs::take_edits(job, read, e_keys, t_keys, s_keys, t_sides, s_sides);
+    let verdict_edited = edited.verdict;
+    if let Verdict::Refused(number, place) = verdict_edited {
+        return answers::put_refusal(out, number, place);
+    }
+    answer_job(out, work, edited, e_keys, t_keys, s_keys, t_sides, s_sides)
 }

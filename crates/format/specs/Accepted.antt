@@ -183,7 +183,7 @@ sound-reordered width v v′ faces faces′ l l′ same-v f r sound =
     (subst (λ x. SoundList width v (moved (f .seen) (f .new) faces) x) (sym (r .is))
     (sound-under-moved width v faces (moved (r .seen) (r .new) l) (f .seen) (f .new) (sound-moved width v faces l (r .seen) (r .new) sound))))
 
-few-reordered : (n : ℕ) (l l′ : List Simplex) → Reordered l l′ → length l ≤ n → length l′ ≤ n
+pub few-reordered : (n : ℕ) (l l′ : List Simplex) → Reordered l l′ → length l ≤ n → length l′ ≤ n
 few-reordered n l l′ r few = subst (λ k. k ≤ n) (sym (ap length (r .is) ∙ length-moved (r .seen) (r .new) l)) few
 
 pub complex-reordered : (L : Limits) (X Y : Complex) → ReorderedComplex X Y → SoundComplex L X → SoundComplex L Y

@@ -9,7 +9,7 @@ use lib.ListN.{length}
 use lib.Dec.{eqb}
 use borrow.Author.Tests.{le-ltb, eq-eqb, ne-eqb}
 use Rattle.format.specs.Numbers.{small, shape, badHead, headKind, edgesKind, trianglesKind, tetrahedraKind}
-use Rattle.format.specs.Simplex.{Simplex, listed, simplices}
+use Rattle.format.specs.Simplex.{Simplex, SimplexSet, listed, simplices}
 use Rattle.format.specs.Simplex as format
 use Rattle.format.specs.Reading.{Reading, _andThen_, accepted, refused, Listing, Chosen, readList, readChain, readEdits, readHead, afterHead, afterLists, reading, headFits, payloadAt, chainDimension, questionOf}
 use Rattle.format.specs.Reading as reader
@@ -25,20 +25,22 @@ use Rattle.heads.specs.declared.Head.{Head}
 use Rattle.heads.specs.declared.HeadRead.{HeadRead}
 use Rattle.heads.specs.declared.HeadRead.the-variants.{Sound}
 use Rattle.heads.specs.Meaning.{headOf, headReading, HeadKnown}
-use Rattle.lookup.specs.Indexed.{Indexed}
+use Rattle.lookup.specs.Indexed.{Keyed, Indexed}
 use Rattle.lookup.specs.IndexLaws.{sound-proper, proper-none}
 use Rattle.lookup.specs.Numbered.{simplicesIn}
+use Rattle.lookup.specs.NumberedLaws.{none-in}
 use Rattle.reading_lists.specs.Items.{FacesIn}
-use Rattle.stages.specs.Meaning.{listRead}
+use Rattle.stages.specs.Meaning.{listRead, NothingRead}
 use Rattle.stages.specs.declared.ListRead.{ListRead}
 use Rattle.complexes.specs.Meaning.{jobOf, complexOf, Marked}
 use Rattle.complexes.specs.declared.Complex.{Complex}
 use Rattle.complexes.specs.declared.Job.{Job}
-use Rattle.lent_lists.specs.Held.{complexIn, EditsHeld}
+use Rattle.lent_lists.specs.Held.{complexIn, Held, EditsHeld}
+use Rattle.lent_lists.specs.declared.Counts.{Counts}
 use Rattle.lent_lists.specs.declared.Edited.{Edited}
 use Rattle.chain_stage.specs.Meaning.{ChainStageRead}
 use Rattle.chain_stage.specs.declared.ChainStage.{ChainStage}
-use Rattle.jobs.specs.Meaning.{Outcome, SoundHead, ListSound, Lists, readLists, ListsTold, jobIn, Told}
+use Rattle.jobs.specs.Meaning.{Outcome, SoundHead, ListSound, ListHeld, Lists, readLists, ListsTold, jobIn, withEdits, Unedited, Told}
 use Rattle.jobs.specs.declared.JobRead.{JobRead}
 use Rattle.jobs.specs.declared.NumbersRead.{NumbersRead}
 use Rattle.jobs.specs.declared.ListsRead.{ListsRead}
@@ -48,29 +50,27 @@ refused-fine : {A : Type 0} {verdict : Verdict} (n p : ℕ) → verdict ≡ Refu
 refused-fine n p e f = let z : _≡_ {A = ℕ} 0 1 = cc in absurd (omega arith)
 
 -- A REFUSAL of a stage is the outcome.
-pub told-refused : (r : Reading reader.Job) {eKeys tKeys sKeys tSides sSides : List ℕ} (j : NumbersRead) (n p : ℕ) → r ≡ refused n p
-    → j .verdict ≡ Refused n p → Told r eKeys tKeys sKeys tSides sSides j
-told-refused r {eKeys} {tKeys = tKeys} {sKeys = sKeys} j n p e v = record {
+pub unedited-refused : (r : Reading reader.Job) {b eKeys tKeys sKeys tSides sSides : List ℕ} (j : NumbersRead) (n p : ℕ) → r ≡ refused n p
+    → j .verdict ≡ Refused n p → Unedited r b eKeys tKeys sKeys tSides sSides j
+unedited-refused r {b} {eKeys} {tKeys} {sKeys} j n p e v = record {
   set = λ s. false;
-  is = e ∙ ap (λ x. readingOf x (jobIn j eKeys tKeys sKeys (λ s. false))) (sym v);
+  is = e ∙ ap (λ (x : Verdict). readingOf x (jobIn j eKeys tKeys sKeys (λ s. false)) andThen withEdits b (j .next)) (sym v);
   held = refused-fine n p v;
   marks = refused-fine n p v;
   head = refused-fine n p v;
 }
 
 -- what is read as one thing is read as what that is
-pub told-same : {r s : Reading reader.Job} {eKeys tKeys sKeys tSides sSides : List ℕ} (j : NumbersRead) → r ≡ s
-    → Told s eKeys tKeys sKeys tSides sSides j → Told r eKeys tKeys sKeys tSides sSides j
-told-same {eKeys = eKeys} {tKeys = tKeys} {sKeys = sKeys} {tSides = tSides} {sSides = sSides} j e o =
-    subst (λ x. Told x eKeys tKeys sKeys tSides sSides j) (sym e) o
+pub unedited-same : {r s : Reading reader.Job} {b eKeys tKeys sKeys tSides sSides : List ℕ} (j : NumbersRead) → r ≡ s
+    → Unedited s b eKeys tKeys sKeys tSides sSides j → Unedited r b eKeys tKeys sKeys tSides sSides j
+unedited-same {b = b} {eKeys = eKeys} {tKeys = tKeys} {sKeys = sKeys} {tSides = tSides} {sSides = sSides} j e o =
+    subst (λ (x : Reading reader.Job). Unedited x b eKeys tKeys sKeys tSides sSides j) (sym e) o
 
 -- THE JOB BY VALUE, from what was read into arrays.
-pub outcome-refused : {r : Reading reader.Job} {eKeys tKeys sKeys tSides sSides : List ℕ} {read : NumbersRead}
-    → Told r eKeys tKeys sKeys tSides sSides read → (j : JobRead) (n p : ℕ) → read .verdict ≡ Refused n p
-    → j .verdict ≡ Refused n p → Outcome r j
-outcome-refused {r} {eKeys} {tKeys = tKeys} {sKeys = sKeys} {read = read} told j n p e v = record {
-  set = told .set;
-  is = told .is ∙ ap (λ x. readingOf x (jobIn read eKeys tKeys sKeys (told .set))) e ∙ ap (λ x. readingOf x (jobOf (j .job) (told .set))) (sym v);
+pub outcome-refused : {r : Reading reader.Job} (j : JobRead) (n p : ℕ) → r ≡ refused n p → j .verdict ≡ Refused n p → Outcome r j
+outcome-refused {r} j n p e v = record {
+  set = λ s. false;
+  is = e ∙ ap (λ x. readingOf x (jobOf (j .job) (λ s. false))) (sym v);
   marks = refused-fine n p v;
   head = refused-fine n p v;
   v = refused-fine n p v;
@@ -115,6 +115,17 @@ faces-in width l known indexed = record { sound = known .sound .sound; proper = 
 pub no-faces : (v : ℕ) (keys : List ℕ) → FacesIn 2 v [] keys 0
 unfolding listed
 no-faces v keys = record { sound = λ f e. absurd (false≢true e); proper = proper-none 1; keyed = record { count = refl; own = λ i lt. absurd (omega arith) } }
+
+-- A LIST THAT HAS NO ITEMS is held by any arrays.
+pub nothing-held : {b : List ℕ} {at kind v : ℕ} {faces : List Simplex} {keys sides : List ℕ} {r : ListRead} → NothingRead b at kind r
+    → ListHeld b at kind v faces keys sides r
+nothing-held {kind = kind} {v = v} {faces = faces} {keys = keys} read = record {
+  reads = read .reads v faces keys;
+  keyed = subst (λ (n : ℕ). Keyed (simplicesIn kind keys n) keys n) (sym (read .none))
+      (record { count = ap length (sym (none-in kind keys)); own = λ i lt. absurd (omega arith) });
+  within = omega (arith, read .none);
+  sided = λ fine. record { own = λ i lt. absurd (omega (arith, read .none)) };
+}
 
 -- THE LISTS, one over the other, by what was read of each.
 module _ (b : List ℕ) (at v : ℕ) where
@@ -173,14 +184,6 @@ module _ (b : List ℕ) (at : ℕ) (h : reader.Head) where
         ∙ ap (λ x. x andThen λ l. afterLists small b h (l .next) (l .complex))
         (told .reads ∙ ap (λ v. readingOf v (record { complex = complexIn (h .v) (r .counts) eKeys tKeys sKeys; next = r .next })) e)
 
-  pub chain-refused : (X : format.Complex) (n p : ℕ) → readChain small b at (chainDimension (h .question) (h .d)) X ≡ refused n p → afterLists small b h at X ≡ refused n p
-  unfolding afterLists
-  chain-refused X n p e = rw e
-
-  pub edits-read : (X : format.Complex) (A : Chosen) (verdict : Verdict) (Y : format.Complex) → readChain small b at (chainDimension (h .question) (h .d)) X ≡ accepted A → readEdits 64 b (A .next) X ≡ readingOf verdict Y → afterLists small b h at X ≡ readingOf verdict (record { question = h .question; d = h .d; complex = Y; chain = A .chain })
-  unfolding afterLists
-  edits-read X A verdict Y e f = rw (e, f) (reading-then verdict Y (λ Z. record { question = h .question; d = h .d; complex = Z; chain = A .chain }))
-
 -- THE HEAD'S RECORD.
 module _ (b : List ℕ) where
   module _ (fits : length b ≤ 6690) where
@@ -214,24 +217,65 @@ dimension-filling q d e = rw (eq-eqb q 1 e) (sub-one d)
 pub dimension-class : (q d : ℕ) → (q ≡ 1 → ⊥) → d ≡ chainDimension (questionOf q) d
 dimension-class q d n = rw (ne-eqb q 1 n)
 
--- THE LAST STAGES: what is asked about, and then the edits.
-pub chain-told : (b : List ℕ) (at dim : ℕ) (X : format.Complex) (r : ChainStage) (n p : ℕ) (h : reader.Head) → dim ≡ chainDimension (h .question) (h .d) → ChainStageRead b at dim X r → r .verdict ≡ Refused n p → afterLists small b h at X ≡ refused n p
-chain-told b at dim X r n p h e read v =
-    chain-refused b at h X n p
-    (ap (λ k. readChain small b at k X) (sym e) ∙ read .reading ∙ ap (λ x. readingOf x (record { chain = read .set; next = r .next })) v)
+-- what is read behind a verdict is read behind it alone
+then-same : {A B C : Type 0} (verdict : Verdict) (a : A) (b : B) (f : A → Reading C) (g : B → Reading C) → f a ≡ g b
+    → (readingOf verdict a andThen f) ≡ (readingOf verdict b andThen g)
+then-same Fine a b f g e = e
+then-same (Refused n p) a b f g e = refl
 
-pub edits-told : (b : List ℕ) (at dim : ℕ) (X : format.Complex) (r : ChainStage) (head : Head) (done : Edited) {eKeys tKeys sKeys tSides sSides : List ℕ} → dim ≡ chainDimension (questionOf (head .question)) (head .d) → SoundHead head → SoundComplex small X → ChainStageRead b at dim X r → r .verdict ≡ Fine → EditsHeld b (r .next) dim (head .v) X (r .marks) eKeys tKeys sKeys tSides sSides done
-    → Told (afterLists small b (headOf head) at X) eKeys tKeys sKeys tSides sSides (record { verdict = done .verdict; head = head; counts = done .counts; marks = done .marks })
-edits-told b at dim X r head done {eKeys} {tKeys = tKeys} {sKeys = sKeys} e known sound read fine taken = record {
+-- WHAT IS ASKED ABOUT stands before the edits.
+pub chain-asked : (b : List ℕ) (at dim : ℕ) (head : Head) (counts : Counts) (r : ChainStage) {eKeys tKeys sKeys tSides sSides : List ℕ}
+    → dim ≡ chainDimension (questionOf (head .question)) (head .d) → SoundHead head → Held (head .v) counts eKeys tKeys sKeys tSides sSides
+    → ChainStageRead b at dim (complexIn (head .v) counts eKeys tKeys sKeys) r
+    → Unedited (afterLists small b (headOf head) at (complexIn (head .v) counts eKeys tKeys sKeys)) b eKeys tKeys sKeys tSides sSides
+    (record { verdict = r .verdict; head = head; counts = counts; marks = r .marks; next = r .next })
+unfolding afterLists
+chain-asked b at dim head counts r {eKeys} {tKeys} {sKeys} e known held read = record {
   set = read .set;
-  is = edits-read b at (headOf head) X (record { chain = read .set; next = r .next }) (done .verdict) (complexIn (head .v) (done .counts) eKeys tKeys sKeys)
-      (ap (λ k. readChain small b at k X) (sym e) ∙ read .reading ∙ ap (λ x. readingOf x (record { chain = read .set; next = r .next })) fine)
-      (taken .reading);
-  held = taken .held;
-  marks = λ f. subst (λ k. Marked (done .marks .on) (simplices (complexIn (head .v) (done .counts) eKeys tKeys sKeys) k) (read .set)) e
-      (taken .stay f (read .set) (read .marks fine (simplices-once small X sound dim)));
+  is =
+      ap (λ (x : Reading Chosen). x andThen rest) (ap (λ (k : ℕ). readChain small b at k X) (sym e) ∙ read .reading)
+      ∙ then-same (r .verdict) (record { chain = read .set; next = r .next }) (asking (read .set)) rest (withEdits b (r .next)) refl;
+  held = λ f. held;
+  marks = λ f. subst (λ (k : ℕ). Marked (r .marks .on) (simplices X k) (read .set)) e (read .marks f (simplices-once small X (held .sound) dim));
   head = λ f. known;
 }
+  where
+    X : format.Complex
+    X = complexIn (head .v) counts eKeys tKeys sKeys
+
+    asking : SimplexSet → reader.Job
+    asking A = record { question = questionOf (head .question); d = head .d; complex = X; chain = A }
+
+    rest : Chosen → Reading reader.Job
+    rest A =
+        readEdits 64 b (A .next) X andThen λ Y.
+        accepted (record { question = questionOf (head .question); d = head .d; complex = Y; chain = A .chain })
+
+-- THE EDITS, behind a job that was read up to them.
+pub edits-told : {r : Reading reader.Job} {b eKeys tKeys sKeys tSides sSides : List ℕ} {read : NumbersRead}
+    → Unedited r b eKeys tKeys sKeys tSides sSides read → read .verdict ≡ Fine
+    → (dim next : ℕ) → dim ≡ chainDimension (questionOf (read .head .question)) (read .head .d)
+    → (done : Edited) {eKeys′ tKeys′ sKeys′ tSides′ sSides′ : List ℕ}
+    → EditsHeld b (read .next) dim (read .head .v) (complexIn (read .head .v) (read .counts) eKeys tKeys sKeys) (read .marks) eKeys′ tKeys′ sKeys′ tSides′ sSides′ done
+    → Told r eKeys′ tKeys′ sKeys′ tSides′ sSides′
+    (record { verdict = done .verdict; head = read .head; counts = done .counts; marks = done .marks; next = next })
+edits-told {r} {b} {eKeys} {tKeys} {sKeys} {read = read} u fine dim next e done {eKeys′} {tKeys′} {sKeys′} taken = record {
+  set = u .set;
+  is =
+      u .is
+      ∙ ap (λ (x : Verdict). readingOf x (jobIn read eKeys tKeys sKeys (u .set)) andThen withEdits b (read .next)) fine
+      ∙ ap (λ (x : Reading format.Complex). x andThen λ Y. accepted (asking Y)) (taken .reading)
+      ∙ reading-then (done .verdict) (complexIn (read .head .v) (done .counts) eKeys′ tKeys′ sKeys′) asking;
+  held = taken .held;
+  marks = λ f.
+      subst (λ (k : ℕ). Marked (done .marks .on) (simplices (complexIn (read .head .v) (done .counts) eKeys′ tKeys′ sKeys′) k) (u .set)) e
+      (taken .stay f (u .set)
+      (subst (λ (k : ℕ). Marked (read .marks .on) (simplices (complexIn (read .head .v) (read .counts) eKeys tKeys sKeys) k) (u .set)) (sym e) (u .marks fine)));
+  head = λ f. u .head fine;
+}
+  where
+    asking : format.Complex → reader.Job
+    asking Y = record { question = questionOf (read .head .question); d = read .head .d; complex = Y; chain = u .set }
 
 -- three sound lists make a sound complex
 pub complex-sound : (v : ℕ) (edges triangles tetrahedra : List Simplex) → v ≤ 256 → ListSound 2 v [] edges → ListSound 3 v edges triangles → ListSound 4 v triangles tetrahedra → SoundComplex small (record { v = v; edges = edges; triangles = triangles; tetrahedra = tetrahedra })

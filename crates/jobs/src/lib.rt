@@ -10,17 +10,25 @@ use lent_lists::Counts;
 use lists::Marks;
 use lists::SimplexList;
 use lists::Verdict;
+use records::Header;
+use stages::ListRead;
 use stages::Opened;
 ghost use mathlib.Core.Path.{_≡_};
+ghost use mathlib.Core.List.{List};
 ghost use Prim.Native.Nat.{_≤_};
 ghost use lib.ListN.{length};
 ghost use Rattle.format.specs.Numbers.{small};
-ghost use Rattle.format.specs.Reading.{reading, afterHead, afterLists, chainDimension, questionOf};
+ghost use Rattle.format.specs.Simplex.{Simplex};
+ghost use Rattle.format.specs.Reading as format;
+ghost use Rattle.format.specs.Reading.{Reading, reading, afterHead, afterLists, chainDimension, questionOf};
+ghost use Rattle.keys.specs.Chained.{Chained};
 ghost use Rattle.lookup.specs.Indexed.{Blank, Indexed};
 ghost use Rattle.lookup.specs.Numbered.{simplicesIn};
+ghost use Rattle.reading_lists.specs.Items.{FacesIn};
+ghost use Rattle.stages.specs.Meaning.{RoomAt};
 ghost use Rattle.heads.specs.Meaning.{headOf};
-ghost use Rattle.lent_lists.specs.Held.{complexIn, Room, Held};
-ghost use Rattle.jobs.specs.Meaning.{Outcome, SoundHead, ListsTold, Told};
+ghost use Rattle.lent_lists.specs.Held.{complexIn, Held};
+ghost use Rattle.jobs.specs.Meaning.{Outcome, SoundHead, FileRoom, SizesTold, ListHeld, ListsTold, Unedited, Told};
 
 // A verdict, and the job beside it, which counts only where nothing was refused.
 pub struct JobRead {
@@ -47,12 +55,13 @@ impl JobRead {
 }
 
 // The same with the lists left in lent arrays: the question, how many simplices each list has, and A as marks by rank, which
-// count only where nothing was refused.
+// count only where nothing was refused. Before the edits are taken, `next` is the offset from which on they stand.
 pub struct NumbersRead {
     pub verdict: Verdict,
     pub head: Head,
     pub counts: Counts,
     pub marks: Marks,
+    pub next: usize,
 }
 
 impl NumbersRead {
@@ -64,6 +73,7 @@ impl NumbersRead {
             head: Head::new(Head::FILL, 1, 0),
             counts: Counts::none(),
             marks: Marks::none(),
+            next: 0,
         }
     }
 }
@@ -80,6 +90,36 @@ pub fn chain_dimension(head: Head) -> usize
         return d - 1;
     }
     d
+}
+
+// How many bytes the records of the edges, the triangles and the tetrahedra hold, as far as they stand where they should: what
+// room the reading of the lists takes. Of a file that is too long nothing is looked at.
+pub struct Sizes {
+    pub edges: usize,
+    pub triangles: usize,
+    pub tetrahedra: usize,
+}
+
+pub fn list_sizes(job: &[u8]) -> Sizes
+    ensures { λ r. ⌜ (length (now (job .entry)) ≤ 6690 → SizesTold (now (job .entry)) 10 r) ⌝ }
+{
+    if JobRead::BYTES < job.len() {
+        return Sizes {
+            edges: 0,
+            triangles: 0,
+            tetrahedra: 0,
+        };
+    }
+    let edges = stages::list_bytes(job, 10, SimplexList::EDGES);
+    let behind_edges = 10 + Header::BYTES + edges;
+    let triangles = stages::list_bytes(job, behind_edges, SimplexList::TRIANGLES);
+    let behind_triangles = behind_edges + Header::BYTES + triangles;
+    let tetrahedra = stages::list_bytes(job, behind_triangles, SimplexList::TETRAHEDRA);
+    Sizes {
+        edges,
+        triangles,
+        tetrahedra,
+    }
 }
 
 // The three lists as they were read, which count only where nothing was refused, and the offset behind them.
@@ -101,6 +141,53 @@ impl ListsRead {
     }
 }
 
+// The tetrahedra, over m triangles. Where no array was lent for them there are none, and nothing is set up to look them up.
+fn read_tetrahedra(
+    job: &[u8],
+    at: usize,
+    v: u16,
+    t_keys: &[u64],
+    t_first: &[u16],
+    t_next: &[u16],
+    m: usize,
+    s_keys: &mut [u64],
+    s_sides: &mut [u64],
+) -> ListRead
+    requires { ⌜ RoomAt (now job) at 4 (length (now «s_keys»)) ⌝ }
+    requires { ⌜ length (now «s_keys») ≤ length (now «s_sides») ⌝ }
+    requires { ⌜ Chained (now «t_keys») (now «t_first») (now «t_next») m ⌝ }
+    requires { ⌜ m ≤ 65536 ⌝ }
+    ensures { λ r. ⌜ ((faces : List Simplex) → FacesIn 4 v faces (now («t_keys» .entry)) m → ListHeld (now (job .entry)) at 4 v faces (now («s_keys» .exit)) (now («s_sides» .exit)) r) ⌝ }
+{
+    if s_keys.len() == 0 {
+        return stages::read_nothing(job, at, SimplexList::TETRAHEDRA);
+    }
+    let mut s_first = [0u16; BUCKETS];
+    let mut s_next = [0u16; SimplexList::LIMIT];
+    let taken = stages::read_list(
+        job,
+        at,
+        SimplexList::TETRAHEDRA,
+        v,
+        s_keys,
+        &mut s_first,
+        &mut s_next,
+    );
+    stages::find_faces(
+        job,
+        at,
+        SimplexList::TETRAHEDRA,
+        v,
+        t_keys,
+        t_first,
+        t_next,
+        m,
+        s_keys,
+        s_sides,
+        taken,
+    )
+}
+
 // The edges, the triangles over them and the tetrahedra over those. An edge's facets are vertices, which no list holds, and its
 // number says its sides. The links of the edges stay, for a walk; those of triangles serve the look-up of facets and doubles
 // alone, and those of tetrahedra that of doubles.
@@ -116,8 +203,8 @@ fn read_lists(
     t_sides: &mut [u64],
     s_sides: &mut [u64],
 ) -> ListsRead
-    requires { ⌜ Room (now «e_keys») (now «t_keys») (now «s_keys») (now «t_sides») (now «s_sides») ⌝ }
-    requires { ⌜ Blank (now «e_keys») (now «e_first») (now «e_next») ⌝ }
+    requires { ⌜ FileRoom (now job) at (now «e_keys») (now «t_keys») (now «s_keys») (now «t_sides») (now «s_sides») ⌝ }
+    requires { ⌜ Blank (now «e_first») (now «e_next») ⌝ }
     ensures { λ r. ⌜ ListsTold (now (job .entry)) at v (now («e_keys» .exit)) (now («e_first» .exit)) (now («e_next» .exit)) (now («t_keys» .exit)) (now («s_keys» .exit)) (now («t_sides» .exit)) (now («s_sides» .exit)) r ⌝ }
 {
     let e = stages::read_list(job, at, SimplexList::EDGES, v, e_keys, e_first, e_next);
@@ -153,21 +240,9 @@ fn read_lists(
     if let Verdict::Refused(number, place) = triangles_verdict {
         return ListsRead::refused(number, place);
     }
-    let mut s_first = [0u16; BUCKETS];
-    let mut s_next = [0u16; SimplexList::LIMIT];
-    let s_taken = stages::read_list(
+    let s = read_tetrahedra(
         job,
         t.next,
-        SimplexList::TETRAHEDRA,
-        v,
-        s_keys,
-        &mut s_first,
-        &mut s_next,
-    );
-    let s = stages::find_faces(
-        job,
-        t.next,
-        SimplexList::TETRAHEDRA,
         v,
         t_keys,
         &t_first,
@@ -175,7 +250,6 @@ fn read_lists(
         t.count,
         s_keys,
         s_sides,
-        s_taken,
     );
     let verdict = s.verdict;
     ListsRead {
@@ -189,25 +263,25 @@ fn read_lists(
     }
 }
 
-// What is asked about, and then the edits.
+// What is asked about.
 fn after_lists(
     job: &[u8],
     head: Head,
     at: usize,
     counts: Counts,
-    e_keys: &mut [u64],
+    e_keys: &[u64],
     e_first: &[u16],
     e_next: &[u16],
-    t_keys: &mut [u64],
-    s_keys: &mut [u64],
-    t_sides: &mut [u64],
-    s_sides: &mut [u64],
+    t_keys: &[u64],
+    s_keys: &[u64],
+    t_sides: &[u64],
+    s_sides: &[u64],
 ) -> NumbersRead
     requires { ⌜ length (now job) ≤ 6690 ⌝ }
     requires { ⌜ SoundHead head ⌝ }
     requires { ⌜ Held (head .v) counts (now «e_keys») (now «t_keys») (now «s_keys») (now «t_sides») (now «s_sides») ⌝ }
     requires { ⌜ Indexed (simplicesIn 2 (now «e_keys») (counts .edges)) (now «e_keys») (now «e_first») (now «e_next») (counts .edges) ⌝ }
-    ensures { λ r. ⌜ Told (afterLists small (now (job .entry)) (headOf head) at (complexIn (head .v) counts (now («e_keys» .entry)) (now («t_keys» .entry)) (now («s_keys» .entry)))) (now («e_keys» .exit)) (now («t_keys» .exit)) (now («s_keys» .exit)) (now («t_sides» .exit)) (now («s_sides» .exit)) r ⌝ }
+    ensures { λ r. ⌜ Unedited (afterLists small (now (job .entry)) (headOf head) at (complexIn (head .v) counts (now («e_keys» .entry)) (now («t_keys» .entry)) (now («s_keys» .entry)))) (now (job .entry)) (now («e_keys» .entry)) (now («t_keys» .entry)) (now («s_keys» .entry)) (now («t_sides» .entry)) (now («s_sides» .entry)) r ⌝ }
 {
     let v = head.v;
     let dim = chain_dimension(head);
@@ -215,31 +289,14 @@ fn after_lists(
     let edges = counts.edges;
     let asked = chain_stage::read_chain(job, at, dim, count, edges, e_keys, e_first, e_next);
     let verdict = asked.verdict;
-    if let Verdict::Refused(number, place) = verdict {
-        return NumbersRead::refused(number, place);
-    }
     let marks = asked.marks;
-    let edited = lent_lists::take_edits(
-        job,
-        asked.next,
-        v,
+    let next = asked.next;
+    NumbersRead {
+        verdict,
+        head,
         counts,
         marks,
-        dim,
-        e_keys,
-        t_keys,
-        s_keys,
-        t_sides,
-        s_sides,
-    );
-    let verdict_after = edited.verdict;
-    let counts_after = edited.counts;
-    let marks_after = edited.marks;
-    NumbersRead {
-        verdict: verdict_after,
-        head,
-        counts: counts_after,
-        marks: marks_after,
+        next,
     }
 }
 
@@ -256,8 +313,8 @@ fn after_head(
 ) -> NumbersRead
     requires { ⌜ length (now job) ≤ 6690 ⌝ }
     requires { ⌜ SoundHead head ⌝ }
-    requires { ⌜ Room (now «e_keys») (now «t_keys») (now «s_keys») (now «t_sides») (now «s_sides») ⌝ }
-    ensures { λ r. ⌜ Told (afterHead small (now (job .entry)) at (headOf head)) (now («e_keys» .exit)) (now («t_keys» .exit)) (now («s_keys» .exit)) (now («t_sides» .exit)) (now («s_sides» .exit)) r ⌝ }
+    requires { ⌜ FileRoom (now job) at (now «e_keys») (now «t_keys») (now «s_keys») (now «t_sides») (now «s_sides») ⌝ }
+    ensures { λ r. ⌜ Unedited (afterHead small (now (job .entry)) at (headOf head)) (now (job .entry)) (now («e_keys» .exit)) (now («t_keys» .exit)) (now («s_keys» .exit)) (now («t_sides» .exit)) (now («s_sides» .exit)) r ⌝ }
 {
     let mut e_first = [0u16; BUCKETS];
     let mut e_next = [0u16; SimplexList::LIMIT];
@@ -293,8 +350,8 @@ fn after_head(
     )
 }
 
-// Reads a job file, any bytes of any length, and leaves its lists in the lent arrays.
-pub fn read_numbers(
+// Reads a job file, any bytes of any length, up to its edits, and leaves its lists in the lent arrays.
+pub fn read_unedited(
     job: &[u8],
     e_keys: &mut [u64],
     t_keys: &mut [u64],
@@ -302,8 +359,8 @@ pub fn read_numbers(
     t_sides: &mut [u64],
     s_sides: &mut [u64],
 ) -> NumbersRead
-    requires { ⌜ Room (now «e_keys») (now «t_keys») (now «s_keys») (now «t_sides») (now «s_sides») ⌝ }
-    ensures { λ r. ⌜ Told (reading small (now (job .entry))) (now («e_keys» .exit)) (now («t_keys» .exit)) (now («s_keys» .exit)) (now («t_sides» .exit)) (now («s_sides» .exit)) r ⌝ }
+    requires { ⌜ (length (now job) ≤ 6690 → FileRoom (now job) 10 (now «e_keys») (now «t_keys») (now «s_keys») (now «t_sides») (now «s_sides»)) ⌝ }
+    ensures { λ r. ⌜ Unedited (reading small (now (job .entry))) (now (job .entry)) (now («e_keys» .exit)) (now («t_keys» .exit)) (now («s_keys» .exit)) (now («t_sides» .exit)) (now («s_sides» .exit)) r ⌝ }
 {
     if JobRead::BYTES < job.len() {
         return NumbersRead::refused(Verdict::TOO_LONG, 0);
@@ -334,6 +391,48 @@ pub fn read_numbers(
     }
 }
 
+// Takes the edits of a job that was read up to them.
+pub fn take_edits(
+    job: &[u8],
+    read: NumbersRead,
+    e_keys: &mut [u64],
+    t_keys: &mut [u64],
+    s_keys: &mut [u64],
+    t_sides: &mut [u64],
+    s_sides: &mut [u64],
+) -> NumbersRead
+    requires { ⌜ Held (read .head .v) (read .counts) (now «e_keys») (now «t_keys») (now «s_keys») (now «t_sides») (now «s_sides») ⌝ }
+    ensures { λ r. ⌜ ((r0 : Reading format.Job) → Unedited r0 (now (job .entry)) (now («e_keys» .entry)) (now («t_keys» .entry)) (now («s_keys» .entry)) (now («t_sides» .entry)) (now («s_sides» .entry)) read → read .verdict ≡ Verdict.Fine → Told r0 (now («e_keys» .exit)) (now («t_keys» .exit)) (now («s_keys» .exit)) (now («t_sides» .exit)) (now («s_sides» .exit)) r) ⌝ }
+{
+    let head = read.head;
+    let counts = read.counts;
+    let marks = read.marks;
+    let dim = chain_dimension(head);
+    let edited = lent_lists::take_edits(
+        job,
+        read.next,
+        head.v,
+        counts,
+        marks,
+        dim,
+        e_keys,
+        t_keys,
+        s_keys,
+        t_sides,
+        s_sides,
+    );
+    let verdict = edited.verdict;
+    let counts_after = edited.counts;
+    let marks_after = edited.marks;
+    NumbersRead {
+        verdict,
+        head,
+        counts: counts_after,
+        marks: marks_after,
+        next: job.len(),
+    }
+}
+
 // Reads a job file, any bytes of any length.
 pub fn read_job(job: &[u8]) -> JobRead
     ensures { λ r. ⌜ Outcome (reading small (now (job .entry))) r ⌝ }
@@ -343,8 +442,21 @@ pub fn read_job(job: &[u8]) -> JobRead
     let mut s_keys = [0u64; SimplexList::LIMIT];
     let mut t_sides = [0u64; SimplexList::LIMIT];
     let mut s_sides = [0u64; SimplexList::LIMIT];
-    let read = read_numbers(
+    let unedited = read_unedited(
         job,
+        &mut e_keys,
+        &mut t_keys,
+        &mut s_keys,
+        &mut t_sides,
+        &mut s_sides,
+    );
+    let verdict_unedited = unedited.verdict;
+    if let Verdict::Refused(number, place) = verdict_unedited {
+        return JobRead::refused(number, place);
+    }
+    let read = take_edits(
+        job,
+        unedited,
         &mut e_keys,
         &mut t_keys,
         &mut s_keys,

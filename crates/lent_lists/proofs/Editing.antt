@@ -9,7 +9,7 @@ use Rattle.format.specs.Simplex.{SimplexSet, simplices}
 use Rattle.format.specs.Simplex as format
 use Rattle.format.specs.Reading.{accepted, readEdits}
 use Rattle.format.specs.Sound.{SoundComplex}
-use Rattle.format.specs.Accepted.{edits-keep, edits-vertices, complex-reordered}
+use Rattle.format.specs.Accepted.{edits-keep, edits-vertices, few-reordered, complex-reordered}
 use Rattle.format.specs.EditLaws.{edits-ended}
 use Rattle.lists.specs.Verdicts.{readingOf}
 use Rattle.lists.specs.declared.Marks.{Marks}
@@ -19,7 +19,7 @@ use Rattle.complexes.specs.Meaning.{complexOf, Marked}
 use Rattle.complexes.specs.declared.Complex.{Complex}
 use Rattle.edits.specs.Meaning.{EditsTaken}
 use Rattle.edits.specs.declared.EditsRead.{EditsRead}
-use Rattle.lent_lists.specs.Held.{complexIn, Held, HoldsNow, EditsHeld}
+use Rattle.lent_lists.specs.Held.{complexIn, Room, Held, HoldsNow, EditsHeld}
 use Rattle.lent_lists.specs.declared.Counts.{Counts}
 use Rattle.lent_lists.specs.declared.Edited.{Edited}
 
@@ -45,6 +45,20 @@ module _ {b : List ℕ} {at dim : ℕ} {marks : Marks} where
       where
         no-fine : {A : Type 0} → Refused n p ≡ Fine → A
         no-fine f = let z : _≡_ {A = ℕ} 0 1 = cc in absurd (omega arith)
+
+    -- edits move simplices, so what had room before them has it after them
+    pub editing-room : {eKeys tKeys sKeys tSides sSides : List ℕ} → r .verdict ≡ Fine → Room X eKeys tKeys sKeys tSides sSides
+        → Room (complexOf (r .complex)) eKeys tKeys sKeys tSides sSides
+    editing-room {eKeys} {tKeys} {sKeys} {tSides} {sSides} fine room =
+        edits-keep (λ (Z : format.Complex). Room Z eKeys tKeys sKeys tSides sSides)
+        (λ P Q z room. record {
+          edges = few-reordered (length eKeys) _ _ (z .edges) (room .edges);
+          triangles = few-reordered (length tKeys) _ _ (z .triangles) (room .triangles);
+          tetrahedra = few-reordered (length sKeys) _ _ (z .tetrahedra) (room .tetrahedra);
+          triangle-sides = few-reordered (length tSides) _ _ (z .triangles) (room .triangle-sides);
+          tetrahedron-sides = few-reordered (length sSides) _ _ (z .tetrahedra) (room .tetrahedron-sides);
+        })
+        64 b at X (complexOf (r .complex)) (read ∙ ap (λ (x : Verdict). readingOf x (complexOf (r .complex))) fine) room
 
     -- nothing was refused, and the complex after the edits was put in again
     module _ {v : ℕ} (fine : r .verdict ≡ Fine) (vertices : X .v ≡ v) (sound : SoundComplex small X)

@@ -7,6 +7,7 @@ use native.Mathlib.Omega.{arith}
 use lib.ListN.{length}
 use Rattle.format.specs.Numbers.{small}
 use Rattle.format.specs.Simplex.{Simplex}
+use Rattle.format.specs.Simplex as format
 use Rattle.format.specs.Lookup.{stands-listed}
 use Rattle.format.specs.Sound.{SoundComplex}
 use Rattle.lists.specs.Meaning.{simplicesOf}
@@ -28,7 +29,7 @@ SidesFind width faceKeys m keys n sides found =
     → SidesTold faces l sides n found
 
 module _ (Y : Complex) {eKeys tKeys sKeys tSides sSides : List ℕ} {e t s tFound sFound : ℕ}
-    (room : Room eKeys tKeys sKeys tSides sSides)
+    (room : Room (complexOf Y) eKeys tKeys sKeys tSides sSides)
     (edges : Keyed (simplicesOf (Y .edges)) eKeys e)
     (triangles : Keyed (simplicesOf (Y .triangles)) tKeys t)
     (tetrahedra : Keyed (simplicesOf (Y .tetrahedra)) sKeys s)
@@ -39,15 +40,15 @@ module _ (Y : Complex) {eKeys tKeys sKeys tSides sSides : List ℕ} {e t s tFoun
 
   module _ (sound : SoundComplex small (complexOf Y)) where
     edges-in : simplicesIn 2 eKeys e ≡ simplicesOf (Y .edges)
-    edges-in = keyed-in 2 eKeys e (omega (arith, room .edges, edges .count, sound .few-edges)) (sound-proper (sound .edges)) edges
+    edges-in = keyed-in 2 eKeys e (omega (arith, room .edges, edges .count)) (sound-proper (sound .edges)) edges
 
     triangles-in : simplicesIn 3 tKeys t ≡ simplicesOf (Y .triangles)
     triangles-in =
-        keyed-in 3 tKeys t (omega (arith, room .triangles, triangles .count, sound .few-triangles)) (sound-proper (sound .triangles)) triangles
+        keyed-in 3 tKeys t (omega (arith, room .triangles, triangles .count)) (sound-proper (sound .triangles)) triangles
 
     tetrahedra-in : simplicesIn 4 sKeys s ≡ simplicesOf (Y .tetrahedra)
     tetrahedra-in =
-        keyed-in 4 sKeys s (omega (arith, room .tetrahedra, tetrahedra .count, sound .few-tetrahedra)) (sound-proper (sound .tetrahedra)) tetrahedra
+        keyed-in 4 sKeys s (omega (arith, room .tetrahedra, tetrahedra .count)) (sound-proper (sound .tetrahedra)) tetrahedra
 
     same : complexIn (Y .v) counts eKeys tKeys sKeys ≡ complexOf Y
     same = rw (edges-in, triangles-in, tetrahedra-in) refl
@@ -55,7 +56,7 @@ module _ (Y : Complex) {eKeys tKeys sKeys tSides sSides : List ℕ} {e t s tFoun
     held : Held (Y .v) counts eKeys tKeys sKeys tSides sSides
     held = record {
       sound = subst (SoundComplex small) (sym same) sound;
-      room = room;
+      room = subst (λ (X : format.Complex). Room X eKeys tKeys sKeys tSides sSides) (sym same) room;
       edges = subst (λ (l : List Simplex). Keyed l eKeys e) (sym edges-in) edges;
       triangles = subst (λ (l : List Simplex). Keyed l tKeys t) (sym triangles-in) triangles;
       tetrahedra = subst (λ (l : List Simplex). Keyed l sKeys s) (sym tetrahedra-in) tetrahedra;

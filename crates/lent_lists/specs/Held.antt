@@ -33,13 +33,13 @@ pub record Counted (X : Complex) (v : ℕ) (c : Counts) : Type 0 where
   pub triangles : length (X .triangles) ≡ c .triangles
   pub tetrahedra : length (X .tetrahedra) ≡ c .tetrahedra
 
--- lent arrays with room for whole lists: the numbers of edges (e), triangles (t) and tetrahedra (s), and the sides of the latter
-pub record Room (eKeys tKeys sKeys tSides sSides : List ℕ) : Type 0 where
-  pub edges : 512 ≤ length eKeys
-  pub triangles : 512 ≤ length tKeys
-  pub tetrahedra : 512 ≤ length sKeys
-  pub triangle-sides : 512 ≤ length tSides
-  pub tetrahedron-sides : 512 ≤ length sSides
+-- lent arrays with room for a complex: the numbers of edges (e), triangles (t) and tetrahedra (s), and the sides of the latter
+pub record Room (X : Complex) (eKeys tKeys sKeys tSides sSides : List ℕ) : Type 0 where
+  pub edges : length (X .edges) ≤ length eKeys
+  pub triangles : length (X .triangles) ≤ length tKeys
+  pub tetrahedra : length (X .tetrahedra) ≤ length sKeys
+  pub triangle-sides : length (X .triangles) ≤ length tSides
+  pub tetrahedron-sides : length (X .tetrahedra) ≤ length sSides
 
 -- lists whose numbers the arrays have room for
 pub record Roomy (c : Counts) (eKeys tKeys sKeys : List ℕ) : Type 0 where
@@ -50,7 +50,7 @@ pub record Roomy (c : Counts) (eKeys tKeys sKeys : List ℕ) : Type 0 where
 -- the arrays hold a sound complex
 pub record Held (v : ℕ) (c : Counts) (eKeys tKeys sKeys tSides sSides : List ℕ) : Type 0 where
   pub sound : SoundComplex small (complexIn v c eKeys tKeys sKeys)
-  pub room : Room eKeys tKeys sKeys tSides sSides
+  pub room : Room (complexIn v c eKeys tKeys sKeys) eKeys tKeys sKeys tSides sSides
   pub edges : Keyed (simplicesIn 2 eKeys (c .edges)) eKeys (c .edges)
   pub triangles : Keyed (simplicesIn 3 tKeys (c .triangles)) tKeys (c .triangles)
   pub tetrahedra : Keyed (simplicesIn 4 sKeys (c .tetrahedra)) sKeys (c .tetrahedra)

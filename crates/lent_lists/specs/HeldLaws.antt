@@ -3,12 +3,12 @@ use Prim.Native.Nat.{ℕ, zero, suc, _≤_}
 use mathlib.Core.Path.{_≡_, refl, sym}
 use mathlib.Core.List.{List}
 use native.Mathlib.Omega.{arith}
-use lib.ListN.{length, replicate, length-replicate}
+use lib.ListN.{length}
 use Rattle.format.specs.Numbers.{small}
 use Rattle.format.specs.Simplex.{Complex, simplices}
 use Rattle.format.specs.Sound.{SoundComplex}
 use Rattle.format.specs.Vertices.{length-vertices}
-use Rattle.lent_lists.specs.Held.{complexIn, Counted, Roomy, Room, Held}
+use Rattle.lent_lists.specs.Held.{complexIn, Counted, Roomy, Held}
 use Rattle.lent_lists.specs.declared.Counts.{Counts}
 
 -- a sound complex has at most 512 simplices of each dimension
@@ -35,13 +35,7 @@ pub held-roomy : {v : ℕ} {c : Counts} {eKeys tKeys sKeys tSides sSides : List 
     → Held v c eKeys tKeys sKeys tSides sSides → Roomy c eKeys tKeys sKeys
 held-roomy held =
     record {
-      edges = (omega (arith, held .edges .count, held .sound .few-edges), omega (arith, held .edges .count, held .sound .few-edges, held .room .edges));
-      triangles = (omega (arith, held .triangles .count, held .sound .few-triangles), omega (arith, held .triangles .count, held .sound .few-triangles, held .room .triangles));
-      tetrahedra = (omega (arith, held .tetrahedra .count, held .sound .few-tetrahedra), omega (arith, held .tetrahedra .count, held .sound .few-tetrahedra, held .room .tetrahedra));
+      edges = (omega (arith, held .edges .count, held .sound .few-edges), omega (arith, held .edges .count, held .room .edges));
+      triangles = (omega (arith, held .triangles .count, held .sound .few-triangles), omega (arith, held .triangles .count, held .room .triangles));
+      tetrahedra = (omega (arith, held .tetrahedra .count, held .sound .few-tetrahedra), omega (arith, held .tetrahedra .count, held .room .tetrahedra));
     }
-
--- arrays of 512 have room for whole lists
-pub zeros-room : Room (replicate 512 0) (replicate 512 0) (replicate 512 0) (replicate 512 0) (replicate 512 0)
-zeros-room =
-    let long : 512 ≤ length {A = ℕ} (replicate 512 0) = omega (arith, length-replicate {A = ℕ} 512 0) in
-    record { edges = long; triangles = long; tetrahedra = long; triangle-sides = long; tetrahedron-sides = long }

@@ -82,7 +82,7 @@ fn hold(
     t_sides: &mut [u64],
     s_sides: &mut [u64],
 ) -> Counts
-    requires { ⌜ Room (now «e_keys») (now «t_keys») (now «s_keys») (now «t_sides») (now «s_sides») ⌝ }
+    requires { ⌜ Room (complexOf complex) (now «e_keys») (now «t_keys») (now «s_keys») (now «t_sides») (now «s_sides») ⌝ }
     ensures { λ c. ⌜ HoldsNow (complexOf complex) c (now («e_keys» .exit)) (now («t_keys» .exit)) (now («s_keys» .exit)) (now («t_sides» .exit)) (now («s_sides» .exit)) ⌝ }
 {
     let mut e_first = [0u16; BUCKETS];

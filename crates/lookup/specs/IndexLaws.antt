@@ -101,9 +101,9 @@ sound-proper {l = l} sound = record {
   once = sound .once;
 }
 
--- with links that are all zero, an array of numbers holds no index yet
-pub zeros-blank : {keys : List ℕ} → 512 ≤ length keys → Blank keys (replicate buckets 0) (replicate 512 0)
-zeros-blank room = record { keys-room = room; next-room = omega (arith, length-replicate {A = ℕ} 512 0); none = refl }
+-- links that are all zero chain nothing
+pub zeros-blank : Blank (replicate buckets 0) (replicate 512 0)
+zeros-blank = record { room = omega (arith, length-replicate {A = ℕ} 512 0); none = refl }
 
 -- INDEXES GROW with their lists.
 pub entered : {s : Simplex} {keys keys′ first′ next′ : List ℕ} {n k : ℕ} → Linked keys keys′ first′ next′ n k → NumberOf s k

@@ -29,10 +29,9 @@ pub record Indexed (l : List Simplex) (keys first next : List ℕ) (n : ℕ) : T
   pub chained : Chained keys first next n
   pub keyed : Keyed l keys n
 
--- lent arrays that hold no index yet, with room for a whole list
-pub record Blank (keys first next : List ℕ) : Type 0 where
-  pub keys-room : 512 ≤ length keys
-  pub next-room : 512 ≤ length next
+-- links that chain nothing yet, with room for a whole list
+pub record Blank (first next : List ℕ) : Type 0 where
+  pub room : 512 ≤ length next
   pub none : first ≡ replicate buckets 0
 
 -- what `enter` leaves: the simplex's number stands at n, and the first n + 1 keys are chained

@@ -106,7 +106,8 @@ pub fn enter(keys: &mut [u64], first: &mut [u16], next: &mut [u16], n: usize, s:
 
 // Enters a whole list, and says how many simplices it has.
 pub fn index(list: SimplexList, keys: &mut [u64], first: &mut [u16], next: &mut [u16]) -> usize
-    requires { ⌜ Blank (now keys) (now first) (now next) ⌝ }
+    requires { ⌜ Blank (now first) (now next) ⌝ }
+    requires { ⌜ length (simplicesOf list) ≤ length (now keys) ⌝ }
     ensures { λ n. ⌜ Indexed (simplicesOf list) (now (keys .exit)) (now (first .exit)) (now (next .exit)) n × (n ≤ 512) ⌝ }
 {
     let n = lists::least(list.count, SimplexList::LIMIT);

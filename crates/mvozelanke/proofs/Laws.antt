@@ -1,21 +1,17 @@
--- The answer call's promise, case by case: no room, a refused file, a job that was read.
-use Prim.Native.Nat.{ℕ, _+_, _≤_, _<_}
-use mathlib.Core.Path.{_≡_, refl, sym, _∙_, ap, subst}
+-- The answer call's promise, case by case: no room, a file that is answered; and what room its lists take.
+use Prim.Native.Nat.{ℕ, _≤_, _<_}
+use mathlib.Core.Path.{_≡_, refl, _∙_, ap}
 use mathlib.Core.Logic.{_⊎_, inl, inr}
 use mathlib.Core.List.{List, _++_}
 use native.Mathlib.Nat.{zero-add}
+use native.Mathlib.Omega.{arith}
 use lib.ListN.{length, drop, replicate}
 use Rattle.format.specs.Numbers.{small}
-use Rattle.format.specs.Reading.{reading, accepted, refused, Job}
-use Rattle.format.specs.Answer.{Answered, refusalRecord}
 use Rattle.format.specs.Promise.{AnswerPromise, no-room, answered, over}
-use Rattle.lists.specs.Verdicts.{readingOf}
-use Rattle.lists.specs.declared.Verdict.the-variants.{Fine, Refused}
-use Rattle.jobs.specs.Meaning.{jobIn, Told, Asking}
-use Rattle.jobs.specs.Known.{told-accepted, told-asking}
-use Rattle.jobs.specs.declared.NumbersRead.{NumbersRead}
+use Rattle.jobs.specs.Meaning.{SizesTold, FileRoom}
+use Rattle.jobs.specs.declared.Sizes.{Sizes}
 use Rattle.writer.specs.Meaning.{Put}
-use Rattle.answering.specs.Meaning.{Answers}
+use Rattle.answering.specs.Meaning.{AnswersFile}
 
 -- what is put at the front is written over the lent bytes
 put-over : {l bytes x : List ℕ} {n : ℕ} → Put l 0 bytes x n → x ≡ over bytes l
@@ -33,23 +29,27 @@ module _ (job out work : List ℕ) where
 
   module _ (room : 2055 ≤ length out) (memory : 65536 ≤ length work) where
     -- whatever answers the file, put at the front, with the memory cleared
-    pub kept : {count : ℕ} {after cleared : List ℕ} (answer : List ℕ) → Answered (reading small job) answer → Put out 0 answer after count → cleared ≡ replicate (length work) 0 → AnswerPromise small job out work count after cleared
-    kept answer is put clear = answered room memory answer is (put-count put) (put-over put) clear
+    pub kept : {count : ℕ} {after cleared : List ℕ} → AnswersFile job out after count → cleared ≡ replicate (length work) 0
+        → AnswerPromise small job out work count after cleared
+    kept a clear = answered room memory (a .answer) (a .is) (put-count (a .put)) (put-over (a .put)) clear
 
-    -- what was read, and the arrays that hold it
-    module _ {eKeys tKeys sKeys tSides sSides : List ℕ} (r : NumbersRead)
-        (o : Told (reading small job) eKeys tKeys sKeys tSides sSides r) {count : ℕ} {after cleared : List ℕ} where
-      pub kept-refusal : (n p : ℕ) → r .verdict ≡ Refused n p → Put out 0 (refusalRecord n p) after count → cleared ≡ replicate (length work) 0
-          → AnswerPromise small job out work count after cleared
-      kept-refusal n p v put clear =
-          kept (refusalRecord n p)
-          (subst (λ x. Answered x (refusalRecord n p)) (sym (o .is ∙ ap (λ x. readingOf x (jobIn r eKeys tKeys sKeys (o .set))) v)) refl)
-          put clear
+-- ARRAYS THAT ARE LONG ENOUGH, by the sizes of the records.
+module _ {b : List ℕ} {at : ℕ} {s : Sizes} (told : SizesTold b at s) (none : s .tetrahedra ≤ 0) where
+  pub flat-room : FileRoom b at (replicate 512 0) (replicate 512 0) (replicate 0 0) (replicate 512 0) (replicate 0 0)
+  flat-room = record {
+    edges = λ fits. fits;
+    triangles = λ fits. fits;
+    tetrahedra = λ fits. omega (arith, told .tetrahedra);
+    triangle-sides = omega arith;
+    tetrahedron-sides = omega arith;
+  }
 
-      pub kept-answer : r .verdict ≡ Fine
-          → ((k : Asking r eKeys tKeys sKeys tSides sSides) → Answers (jobIn r eKeys tKeys sKeys (k .set)) out after count)
-          → cleared ≡ replicate (length work) 0 → AnswerPromise small job out work count after cleared
-      unfolding told-asking
-      kept-answer f answers clear =
-          let a = answers (told-asking job r o f) in
-          kept (a .answer) (subst (λ x. Answered x (a .answer)) (sym (told-accepted job r o f)) (a .is)) (a .put) clear
+  pub few-room : s .edges ≤ 256 → s .triangles ≤ 384
+      → FileRoom b at (replicate 128 0) (replicate 128 0) (replicate 0 0) (replicate 128 0) (replicate 0 0)
+  few-room edges triangles = record {
+    edges = λ fits. omega (arith, told .edges);
+    triangles = λ fits. omega (arith, told .triangles);
+    tetrahedra = λ fits. omega (arith, told .tetrahedra);
+    triangle-sides = omega arith;
+    tetrahedron-sides = omega arith;
+  }

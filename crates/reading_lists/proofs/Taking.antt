@@ -89,15 +89,16 @@ pub record Taking (p : List ℕ) (base v width count at : ℕ) (keys₀ first₀
   pub own : (i : ℕ) → i < count → getD (simplicesIn width keys count) i [] ≡ take width (drop (width * i) p)
   pub proper : Proper width (simplicesIn width keys count)
   pub indexed : Indexed (simplicesIn width keys count) keys first next count
-  pub blank : Blank keys₀ first₀ next₀
+  pub fits : length p ≤ width * length keys₀
+  pub blank : Blank first₀ next₀
   pub keys-kept : length keys ≡ length keys₀
   pub first-kept : length first ≡ length first₀
   pub next-kept : length next ≡ length next₀
 
 module _ {p : List ℕ} {base v width : ℕ} where
-  pub taking-start : {keys first next : List ℕ} → Blank keys first next → Taking p base v width 0 0 keys first next keys first next
+  pub taking-start : {keys first next : List ℕ} → length p ≤ width * length keys → Blank first next → Taking p base v width 0 0 keys first next keys first next
   unfolding facesJudged
-  taking-start {keys} {first} {next} blank =
+  taking-start {keys} {first} {next} fits blank =
       record {
         taken = mul-zero width;
         within = omega arith;
@@ -105,6 +106,7 @@ module _ {p : List ℕ} {base v width : ℕ} where
         own = λ i lt. absurd (omega arith);
         proper = subst (Proper width) (sym (none-in width keys)) (proper-none width);
         indexed = subst (λ (l : List format.Simplex). Indexed l keys first next 0) (sym (none-in width keys)) (indexed-none (blank .none));
+        fits = fits;
         blank = blank;
         keys-kept = refl;
         first-kept = refl;
@@ -134,10 +136,13 @@ module _ {p : List ℕ} {base v width : ℕ} where
       room = lt-of-mul-lt-mul-left width (omega (arith, t .taken, t .within, shape))
 
       pub keys-room : count < length keys
-      keys-room = omega (arith, room, t .blank .keys-room, t .keys-kept)
+      keys-room = lt-of-mul-lt-mul-left width (omega (arith, t .taken, t .within, shape, held))
+        where
+          held : length p ≤ width * length keys
+          held = subst (λ (n : ℕ). length p ≤ width * n) (sym (t .keys-kept)) (t .fits)
 
       pub next-room : count < length next
-      next-room = omega (arith, room, t .blank .next-room, t .next-kept)
+      next-room = omega (arith, room, t .blank .room, t .next-kept)
 
       -- the next item, and what the definition reads behind it
       abbrev s : format.Simplex
@@ -188,6 +193,7 @@ module _ {p : List ℕ} {base v width : ℕ} where
               proper = subst (Proper width) (sym grown) (proper-more l s (t .proper) item-wide (passed [] (none-listed v) .1));
               indexed = subst₂ (λ (l : List format.Simplex) (n : ℕ). Indexed l keys′ first′ next′ n) (sym grown) (sym (add-one count))
                   (indexed-more l s (t .indexed) keys-room entered);
+              fits = t .fits;
               blank = t .blank;
               keys-kept = keys-long ∙ t .keys-kept;
               first-kept = first-long ∙ t .first-kept;

@@ -2,7 +2,7 @@
 // is its number, which is looked up, so that the lists are neither gone through nor copied.
 ghost use mathlib.Core.Path.{_≡_};
 ghost use mathlib.Core.List.{List};
-ghost use Prim.Native.Nat.{_+_, _≤_, _<_};
+ghost use Prim.Native.Nat.{_+_, _*_, _≤_, _<_};
 ghost use lib.ListN.{length, getD, take, drop};
 ghost use Rattle.format.specs.Simplex.{soundSimplex, listed};
 ghost use Rattle.format.specs.Simplex as format;
@@ -116,12 +116,10 @@ fn judge(
     requires { ⌜ NumberOf (take width (drop at (now p))) number ⌝ }
     ensures { λ r. ⌜ ((before : List format.Simplex) → Proper width before → Keyed before (now (keys .entry)) n → r ≡ refusalOf width v before (take width (drop at (now (p .entry))))) ⌝ }
 {
-    let repeated = entered(keys, first, next, n, number);
-    let unsound = unsound_edge(p, at, width, v);
-    if unsound {
+    if unsound_edge(p, at, width, v) {
         return Verdict::VERTEX;
     }
-    if repeated {
+    if entered(keys, first, next, n, number) {
         return Verdict::TWICE;
     }
     0
@@ -139,7 +137,8 @@ pub fn take_items(
     next: &mut [u16],
 ) -> ItemsRead
     requires { ⌜ Shaped (now p) base width ⌝ }
-    requires { ⌜ Blank (now keys) (now first) (now next) ⌝ }
+    requires { ⌜ length (now p) ≤ width * length (now keys) ⌝ }
+    requires { ⌜ Blank (now first) (now next) ⌝ }
     ensures { λ r. ⌜ ItemsTaken (now (p .entry)) base v width (now (keys .exit)) (now (first .exit)) (now (next .exit)) r ⌝ }
 {
     let mut count = 0;

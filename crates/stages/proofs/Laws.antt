@@ -12,10 +12,11 @@ use borrow.Author.Tests.{eq-eqb, ne-eqb, le-leb, lt-leb}
 use Rattle.format.specs.Numbers.{small, cut, wrongKind, shape, headerBytes}
 use Rattle.format.specs.Simplex.{Simplex}
 use Rattle.format.specs.Reading.{Reading, _andThen_, accepted, refused, Listing, ended, broken, whole, headerAt, payloadAt, listFits, readItems, itemsOf, readList}
+use Rattle.format.specs.Items.{items-none}
 use Rattle.format.specs.Opened.{openedFrom, opened, record-opened, opened-inside, payload-long}
 use Rattle.format.specs.Sound.{AllSound}
 use Rattle.lists.specs.declared.Verdict.{Verdict}
-use Rattle.lists.specs.declared.Verdict.the-variants.{Refused}
+use Rattle.lists.specs.declared.Verdict.the-variants.{Fine, Refused}
 use Rattle.lists.specs.Verdicts.{readingOf, reading-then}
 use Rattle.lookup.specs.Indexed.{Proper, Blank, Indexed}
 use Rattle.lookup.specs.IndexLaws.{proper-none, indexed-none}
@@ -25,7 +26,7 @@ use Rattle.lookup.specs.Sides.{Sided, SidesTold}
 use Rattle.reading_lists.specs.Items.{lackOf, facesJudged, Shaped, ItemsTaken}
 use Rattle.reading_lists.specs.declared.ItemsRead.{ItemsRead}
 use Rattle.reading_lists.proofs.Facing.{Paid, edge-owes-none, others-owe, faces-listed, first-lacks}
-use Rattle.stages.specs.Meaning.{listRead, ListTaken, FacesFound}
+use Rattle.stages.specs.Meaning.{sizeOf, sizeAt, listRead, ListTaken, FacesFound}
 use Rattle.stages.specs.declared.ListRead.{ListRead}
 
 module _ (may : ℕ → Bool) (b : List ℕ) (at : ℕ) where
@@ -44,6 +45,14 @@ module _ (may : ℕ → Bool) (b : List ℕ) (at : ℕ) where
   pub opened-may-not : (kind size : ℕ) → headerAt b at ≡ whole kind size → may kind ≡ false → opened may b at ≡ refused wrongKind at
   unfolding openedFrom
   opened-may-not kind size e m = rw (e, m)
+
+-- what stands behind a header is no longer than the file
+pub size-within : (b : List ℕ) (at kind : ℕ) → sizeAt b at kind ≤ length b
+size-within b at kind = go (opened (eqb kind) b at) refl
+  where
+    go : (o : Reading ℕ) → opened (eqb kind) b at ≡ o → sizeOf o ≤ length b
+    go (accepted size) e = omega (arith, opened-inside (eqb kind) b at size e)
+    go (refused number place) e = omega arith
 
 -- THE LIST STAGE.
 module _ (b : List ℕ) (at kind v : ℕ) (faces : List Simplex) where
@@ -70,9 +79,17 @@ module _ (b : List ℕ) (at kind v : ℕ) (faces : List Simplex) where
     list-read e h items r =
         rw (record-opened (λ _ p. listFits small kind p) b at kind, whole, long, eq-eqb (size % kind) 0 e, le-leb size (kind * 512) h, r)
 
+    -- a record without items is an empty list
+    pub list-nothing : size % kind ≡ 0 → size ≡ 0 → 0 < kind
+        → readList small b at kind v faces ≡ accepted (record { list = []; next = at + headerBytes + size })
+    unfolding readItems
+    list-nothing even none some =
+        list-read even (omega arith) (accepted [])
+        (rw (items-none kind (payloadAt b at size) (omega (arith, long, none))) refl)
+
 -- WHAT IS TAKEN. A record that is refused as a whole leaves the lent arrays as they were.
 pub taken-refused : {b : List ℕ} {at kind v : ℕ} {keys first next : List ℕ} {n : ℕ} (r : ListRead)
-    → (r .verdict ≡ Refused n at) × (r .count ≡ 0) → Blank keys first next
+    → (r .verdict ≡ Refused n at) × (r .count ≡ 0) → Blank first next
     → ((faces : List Simplex) → readList small b at kind v faces ≡ refused n at) → ListTaken b at kind v keys first next r
 taken-refused {b} {at} {kind} {v} {keys} {first} {next} r e blank is = record {
   reads = λ faces sound.
@@ -86,6 +103,7 @@ taken-refused {b} {at} {kind} {v} {keys} {first} {next} r e blank is = record {
   indexed = subst₂ (λ (l : List Simplex) (k : ℕ). Indexed l keys first next k) (sym none) (sym (e .1)) (indexed-none (blank .none));
   few = omega (arith, e .1);
   within = λ some. absurd (omega (arith, e .1));
+  ends = λ fine. let z : _≡_ {A = ℕ} 0 1 = cc in absurd (omega arith);
 }
   where
     none : simplicesIn kind keys (r .count) ≡ []
@@ -123,6 +141,7 @@ module _ (b : List ℕ) (at kind v size : ℕ) {p keys first next : List ℕ} {r
     indexed = taken .indexed;
     few = le-of-mul-le-mul-left {k = kind} (omega (arith, taken .within, shape)) (omega (arith, shape));
     within = λ some. omega (arith, taken .within, inside, payload-size);
+    ends = λ fine. ap (λ (s : ℕ). at + headerBytes + s) (sym (ap sizeOf whole));
   }
 
 -- RULE 8 over what was taken.
@@ -156,6 +175,7 @@ module _ {b : List ℕ} {at kind v : ℕ} {keys first next : List ℕ} {taken : 
       sided = λ fine.
           let all : found ≡ taken .count = omega (arith, looked .within) in
           subst (Sided faces list sides) all (looked .sided);
+      fine = λ _. refl;
     }
 
     pub lacking-refused : {refusal : ℕ} → found < taken .count → refusal ≡ lackOf v (take kind (drop (at + headerBytes + kind * found) b))
@@ -169,4 +189,5 @@ module _ {b : List ℕ} {at kind v : ℕ} {keys first next : List ℕ} {taken : 
           (others-owe kind _ faces false wide (looked .lacking lt))));
       count = refl;
       sided = λ fine. let z : _≡_ {A = ℕ} 0 1 = cc in absurd (omega arith);
+      fine = λ fine. let z : _≡_ {A = ℕ} 0 1 = cc in absurd (omega arith);
     }

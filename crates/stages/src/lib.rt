@@ -12,7 +12,7 @@ ghost use Rattle.keys.specs.Chained.{Chained};
 ghost use Rattle.lookup.specs.Indexed.{Blank};
 ghost use Rattle.format.specs.Simplex.{Simplex};
 ghost use Rattle.reading_lists.specs.Items.{FacesIn};
-ghost use Rattle.stages.specs.Meaning.{openedOf, ListTaken, FacesFound};
+ghost use Rattle.stages.specs.Meaning.{openedOf, sizeAt, RoomAt, ListOpened, NothingRead, ListTaken, FacesFound};
 
 // A record that stands at a place: the length of its payload, or the refusal's number.
 pub enum Opened {
@@ -57,6 +57,56 @@ impl ListRead {
     }
 }
 
+// Opens the list record of one kind at a place: 4 where it does not hold whole items, or too many of them.
+fn open_list(job: &[u8], at: usize, kind: u16) -> Opened
+    requires { ⌜ 2 ≤ kind ⌝ }
+    ensures { λ r. ⌜ ListOpened (now (job .entry)) at kind r ⌝ }
+{
+    let opened = open(job, at, kind);
+    match opened {
+        Opened::Refused(number) => Opened::Refused(number),
+        Opened::Size(size) => {
+            let width = kind as usize;
+            if size % width != 0 {
+                return Opened::Refused(Verdict::SHAPE);
+            }
+            if width * SimplexList::LIMIT < size {
+                return Opened::Refused(Verdict::SHAPE);
+            }
+            Opened::Size(size)
+        }
+    }
+}
+
+// How many bytes the list record of one kind at a place holds, 0 where none stands there. Whether the list is sound is not looked
+// at: this tells how much room its reading takes.
+pub fn list_bytes(job: &[u8], at: usize, kind: u16) -> usize
+    ensures { λ r. ⌜ r ≡ sizeAt (now (job .entry)) at kind ⌝ }
+{
+    let opened = open(job, at, kind);
+    match opened {
+        Opened::Refused(_) => 0,
+        Opened::Size(size) => size,
+    }
+}
+
+// Reads a list record that has no items.
+pub fn read_nothing(job: &[u8], at: usize, kind: u16) -> ListRead
+    requires { ⌜ 2 ≤ kind ⌝ }
+    requires { ⌜ RoomAt (now job) at kind 0 ⌝ }
+    ensures { λ r. ⌜ NothingRead (now (job .entry)) at kind r ⌝ }
+{
+    let opened = open_list(job, at, kind);
+    match opened {
+        Opened::Refused(number) => ListRead::refused(number, at),
+        Opened::Size(size) => ListRead {
+            verdict: Verdict::Fine,
+            count: 0,
+            next: at + Header::BYTES + size,
+        },
+    }
+}
+
 // Reads the list record of one kind at a place: its items are taken up to the first that is refused by 7 or, among edges, by 6.
 // They are entered, so their numbers stand in the keys.
 pub fn read_list(
@@ -69,23 +119,17 @@ pub fn read_list(
     next: &mut [u16],
 ) -> ListRead
     requires { ⌜ (2 ≤ kind) × (kind ≤ 4) ⌝ }
-    requires { ⌜ Blank (now keys) (now first) (now next) ⌝ }
+    requires { ⌜ RoomAt (now job) at kind (length (now keys)) ⌝ }
+    requires { ⌜ Blank (now first) (now next) ⌝ }
     ensures { λ r. ⌜ ListTaken (now (job .entry)) at kind v (now (keys .exit)) (now (first .exit)) (now (next .exit)) r ⌝ }
 {
-    let opened = open(job, at, kind);
+    let opened = open_list(job, at, kind);
     match opened {
         Opened::Refused(number) => ListRead::refused(number, at),
         Opened::Size(size) => {
-            let width = kind as usize;
-            if size % width != 0 {
-                return ListRead::refused(Verdict::SHAPE, at);
-            }
-            if width * SimplexList::LIMIT < size {
-                return ListRead::refused(Verdict::SHAPE, at);
-            }
             let start = at + Header::BYTES;
             let p = records::payload(job, at, size);
-            let taken = reading_lists::take_items(p, start, v, width, keys, first, next);
+            let taken = reading_lists::take_items(p, start, v, kind as usize, keys, first, next);
             let verdict = taken.verdict;
             let count = taken.count;
             ListRead {

@@ -156,7 +156,7 @@ put-chain-requires-2 c κs =
     let chosen = rows .before .before .before .before .before .before .before .before in (
       (omega arith, omega (arith, small-dim (start chosen))),
       (
-        numbers-fit (start chosen .pre .0 .held) _ _ (rows .numbers-of2 .ensures) (m-is chosen),
+        numbers-fit (start chosen .pre .0 .held) _ _ (rows .numbers-of2 .ensures) (omega (arith, rows .before .if1 .left)) (omega (arith, small-dim (start chosen))) (m-is chosen),
         le-trans (members-room (lists (start chosen)) (start chosen .pre .0 .held .sound) (start chosen .args .dim) _ (rows-listed rows) _) (start chosen .pre .1 .1 .1 .0),
       ),
     )

@@ -115,7 +115,7 @@ put-chain-requires c κs =
     let chosen = before-search cols in (
       (omega arith, omega (arith, small-dim (start chosen))),
       (
-        numbers-fit (start chosen .pre .0 .held) _ _ (cols .numbers-of2 .ensures) (n-is chosen),
+        numbers-fit (start chosen .pre .0 .held) _ _ (cols .numbers-of2 .ensures) (omega arith) (omega (arith, small-dim (start chosen))) (n-is chosen),
         le-trans (members-room (lists (start chosen)) (start chosen .pre .0 .held .sound) (start chosen .args .dim + 1) _ (patch-list cols) _) (start chosen .pre .1 .1 .1 .0),
       ),
     )

@@ -3,7 +3,7 @@
 use mathlib.Core.Path.{_∙_}
 use Rattle.heads.specs.Meaning.{headOf}
 use Rattle.lookup.specs.IndexLaws.{zeros-blank}
-use Rattle.jobs.proofs.Laws.{told-refused, told-same, lists-refused, lists-fine}
+use Rattle.jobs.proofs.Laws.{unedited-refused, unedited-same, lists-refused, lists-fine}
 use borrow.Author.Needs.{needs}
 use Rattle.jobs.proofs.after_head.Statement.{statement}
 use Rattle.jobs.proofs.after_head.Tie as tie
@@ -12,13 +12,9 @@ use Rattle.jobs.proofs.after_head.Tie as tie
 abbrev begin : tie.After-read-lists → tie.Start
 begin read = read .before .before .before .before .before .before .before .before .before .before .before .before .before .before
 
--- both calls keep the arrays' lengths
-module _ (c : tie.After-slice-known15) where
-  abbrev last-read : tie.After-after-lists
-  last-read = c .before .before .before .before .before .before .before .before .before .before
-
-  abbrev lists-read : tie.After-read-lists
-  lists-read = last-read .before .before .before .before .before .before .before .before .before .before .before .before .before .before .before .before .before .before .before .before .before .before .before
+-- and what the lists were, when what is asked about them was read
+abbrev lists-read : tie.After-after-lists → tie.After-read-lists
+lists-read c = c .before .before .before .before .before .before .before .before .before .before .before .before .before .before .before .before .before .before .before .before .before .before .before
 
 slice-aggregate-read-lists : tie.Need-slice-aggregate-read-lists
 slice-aggregate-read-lists c = search needs
@@ -29,7 +25,7 @@ slice-aggregate-read-lists-2 c = search needs
 read-lists-requires : tie.Need-read-lists-requires
 read-lists-requires c κs =
     let room = c .before .before .before .before .before .before .before .before .before .before .before .before .before .pre .1 .1 in
-    (room, zeros-blank (room .edges))
+    (room, zeros-blank)
 
 enum-known-verdict : tie.Need-enum-known-verdict
 enum-known-verdict c = search needs
@@ -57,7 +53,7 @@ returns c =
     let told = c .before .before in
     let read = told .before .before .before .before .before .before .before .before .before .before .before .before .before .before in
     let a = begin read .args in
-    told-refused _ (c .refused .result) _ _
+    unedited-refused _ (c .refused .result) _ _
     (lists-refused (a .job .now) (a .at) (headOf (a .head)) (read .read-lists .result) (read .read-lists .ensures) _ _ (told .verdict .given .1))
     (c .refused .ensures)
 
@@ -79,28 +75,27 @@ after-lists-requires c κs =
     (known .0, (known .1 .0, (read .read-lists .ensures .held fine (known .1 .0 .vertices), read .read-lists .ensures .linked fine)))
 
 same-length-6 : tie.Need-same-length-6
-same-length-6 c = last-read c .after-lists .kept .1 .1 .1 .1 .0 ∙ lists-read c .read-lists .kept .1 .1 .1 .0
+same-length-6 c = lists-read c .read-lists .kept .1 .1 .1 .0
 
 same-length-7 : tie.Need-same-length-7
-same-length-7 c = last-read c .after-lists .kept .1 .1 .1 .1 .1 .1 .1 .0 ∙ lists-read c .read-lists .kept .1 .1 .1 .1 .1 .1 .0
+same-length-7 c = search needs
 
 same-length-8 : tie.Need-same-length-8
-same-length-8 c = last-read c .after-lists .kept .1 .1 .1 .1 .1 .1 .1 .1 .0 ∙ lists-read c .read-lists .kept .1 .1 .1 .1 .1 .1 .1 .0
+same-length-8 c = search needs
 
 same-length-9 : tie.Need-same-length-9
-same-length-9 c = last-read c .after-lists .kept .1 .1 .1 .1 .1 .1 .1 .1 .1 .0 ∙ lists-read c .read-lists .kept .1 .1 .1 .1 .1 .1 .1 .1 .0
+same-length-9 c = search needs
 
 same-length-10 : tie.Need-same-length-10
-same-length-10 c = last-read c .after-lists .kept .1 .1 .1 .1 .1 .1 .1 .1 .1 .1 .0 ∙ lists-read c .read-lists .kept .1 .1 .1 .1 .1 .1 .1 .1 .1 .0
+same-length-10 c = search needs
 
 returns-2 : tie.Need-returns-2
 returns-2 c =
-    let done = last-read c in
     let read = lists-read c in
     let a = begin read .args in
-    told-same (done .after-lists .result)
-    (lists-fine (a .job .now) (a .at) (headOf (a .head)) (read .read-lists .result) (read .read-lists .ensures) (done .before .before .before .before .before .before .before .before .before .enum-told .given .1))
-    (done .after-lists .ensures)
+    unedited-same (c .after-lists .result)
+    (lists-fine (a .job .now) (a .at) (headOf (a .head)) (read .read-lists .result) (read .read-lists .ensures) (c .before .before .before .before .before .before .before .before .before .enum-told .given .1))
+    (c .after-lists .ensures)
 
 pub after-head-spec : {M : Type 1} → statement M
 after-head-spec =

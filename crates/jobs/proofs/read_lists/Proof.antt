@@ -1,9 +1,10 @@
 -- `jobs::read_lists` meets its contract: each list is read over the one below, which is entered and known to be sound.
 -- Assumes nothing.
 use Prim.Native.Nat.{ℕ}
-use mathlib.Core.Path.{_≡_, sym, subst}
+use mathlib.Core.Path.{_≡_, sym, _∙_, ap, subst}
 use mathlib.Core.List.{List, []}
 use native.Mathlib.Omega.{arith}
+use lib.ListN.{length}
 use Rattle.format.specs.Numbers.{small}
 use Rattle.format.specs.Simplex.{Simplex}
 use Rattle.format.specs.Reading.{accepted, readList}
@@ -11,10 +12,10 @@ use Rattle.lookup.specs.Indexed.{Indexed}
 use Rattle.lookup.specs.IndexLaws.{zeros-blank}
 use Rattle.lookup.specs.Numbered.{simplicesIn}
 use Rattle.reading_lists.specs.Items.{FacesIn}
-use Rattle.stages.specs.Meaning.{listRead, FacesFound}
+use Rattle.stages.specs.Meaning.{endAt, RoomAt, listRead, FacesFound}
 use Rattle.stages.specs.declared.ListRead.{ListRead}
 use Rattle.stages.proofs.Laws.{edges-read}
-use Rattle.jobs.specs.Meaning.{ListSound}
+use Rattle.jobs.specs.Meaning.{ListSound, ListHeld}
 use Rattle.jobs.proofs.Laws.{list-refused, list-fine, list-known, faces-in, no-faces, complex-sound, lists-told-refused, no-edges, no-triangles, all-lists}
 use borrow.Author.Needs.{needs}
 use Rattle.jobs.proofs.read_lists.Statement.{statement}
@@ -62,6 +63,10 @@ module _ (c : tie.After-enum-told) where
   -- they are the faces of triangles
   under-triangles : FacesIn 3 (start first-read .args .v) (edge-list first-read) (edge-keys first-read) (edges first-read .count)
   under-triangles = faces-in 3 _ edges-known (first-read .read-list .ensures .indexed)
+
+  -- and the triangles stand behind them
+  edges-end : edges first-read .next ≡ endAt (job first-read) (start first-read .args .at) 2
+  edges-end = first-read .read-list .ensures .ends (c .enum-told .given .1)
 
 -- the triangles were taken
 module _ (c : tie.After-read-list2) where
@@ -117,16 +122,35 @@ module _ (c : tie.After-enum-told2) where
   under-tetrahedra : FacesIn 4 (start before-them .args .v) (triangle-list second-read) (triangle-keys (triangles-taken second-read)) (triangles second-read .count)
   under-tetrahedra = faces-in 4 _ triangles-known (triangles-indexed second-read)
 
--- the tetrahedra were taken, and their facets found among the triangles
-module _ (c : tie.After-find-faces2) where
-  abbrev tetrahedra-taken : tie.After-read-list3
-  tetrahedra-taken = c .before .before .before .before .before .before .before .before .before .before
+  -- which stand behind them
+  triangles-end : let e = before-them in triangles second-read .next ≡ endAt (job e) (endAt (job e) (start e .args .at) 2) 3
+  triangles-end =
+      let e = before-them in
+      let same = triangles-found second-read .fine (c .enum-told2 .given .1) in
+      ap (λ (r : ListRead). r .next) same
+      ∙ triangles-taken second-read .read-list2 .ensures .ends (ap (λ (r : ListRead). r .verdict) (sym same) ∙ c .enum-told2 .given .1)
+      ∙ ap (λ (n : ℕ). endAt (job e) n 3) (edges-end (over-edges (triangles-taken second-read)))
 
+-- the tetrahedra were read over the triangles
+module _ (c : tie.After-read-tetrahedra) where
   abbrev lists-read : tie.After-enum-told2
-  lists-read = tetrahedra-taken .before .before .before .before
+  lists-read = c .before .before .before .before .before .before
+
+  abbrev tetrahedron-keys : List ℕ
+  tetrahedron-keys = c .read-tetrahedra .last .1 .1 .1 .1 .1 .1 .1 .0
+
+  abbrev tetrahedron-sides : List ℕ
+  tetrahedron-sides = c .read-tetrahedra .last .1 .1 .1 .1 .1 .1 .1 .1 .0
+
+  tetrahedra-held : let e = before-them lists-read in
+      ListHeld (job e) (triangles (second-read lists-read) .next) 4 (start e .args .v) (triangle-list (second-read lists-read)) tetrahedron-keys tetrahedron-sides
+      (c .read-tetrahedra .result)
+  tetrahedra-held = c .read-tetrahedra .ensures _ (under-tetrahedra lists-read)
 
 read-list-requires : tie.Need-read-list-requires
-read-list-requires c κs = ((omega arith, omega arith), c .before .before .before .before .before .before .before .before .before .before .before .pre .1)
+read-list-requires c κs =
+    let given = c .before .before .before .before .before .before .before .before .before .before .before .pre in
+    ((omega arith, omega arith), (given .0 .edges, given .1))
 
 enum-known-edges-verdict : tie.Need-enum-known-edges-verdict
 enum-known-edges-verdict c = search needs
@@ -162,8 +186,9 @@ slice-aggregate-read-list-2 c = search needs
 
 read-list-requires-2 : tie.Need-read-list-requires-2
 read-list-requires-2 c κs =
-    let e = first-read (c .before .before .before) in
-    ((omega arith, omega arith), zeros-blank (start e .pre .0 .triangles))
+    let over = c .before .before .before in
+    let e = first-read over in
+    ((omega arith, omega arith), (subst (λ (n : ℕ). RoomAt (job e) n 3 (length (start e .args .t-keys .now))) (sym (edges-end over)) (start e .pre .0 .triangles), zeros-blank))
 
 find-faces-requires : tie.Need-find-faces-requires
 find-faces-requires c κs =
@@ -173,7 +198,7 @@ find-faces-requires c κs =
       (omega arith, omega arith, omega (arith, e .read-list .ensures .few)),
       (
         e .read-list .ensures .indexed .chained,
-        ((taken .indexed .chained .keyed, omega (arith, taken .few, start e .pre .0 .triangle-sides)), taken .within),
+        ((taken .indexed .chained .keyed, omega (arith, taken .indexed .chained .keyed, start e .pre .0 .triangle-sides, read .read-list2 .kept .1 .1 .1 .1 .0)), taken .within),
       ),
     )
 
@@ -211,46 +236,40 @@ returns-2 c =
 enum-told-2 : tie.Need-enum-told-2
 enum-told-2 c = search needs
 
-slice-aggregate-read-list-3 : tie.Need-slice-aggregate-read-list-3
-slice-aggregate-read-list-3 c = search needs
+slice-aggregate-read-tetrahedra : tie.Need-slice-aggregate-read-tetrahedra
+slice-aggregate-read-tetrahedra c = search needs
 
-slice-aggregate-read-list-4 : tie.Need-slice-aggregate-read-list-4
-slice-aggregate-read-list-4 c = search needs
+slice-aggregate-read-tetrahedra-2 : tie.Need-slice-aggregate-read-tetrahedra-2
+slice-aggregate-read-tetrahedra-2 c = search needs
 
-read-list-requires-3 : tie.Need-read-list-requires-3
-read-list-requires-3 c κs =
-    let e = before-them (c .before .before .before) in
-    ((omega arith, omega arith), zeros-blank (start e .pre .0 .tetrahedra))
-
-slice-aggregate-find-faces : tie.Need-slice-aggregate-find-faces
-slice-aggregate-find-faces c = search needs
-
-slice-aggregate-find-faces-2 : tie.Need-slice-aggregate-find-faces-2
-slice-aggregate-find-faces-2 c = search needs
-
-find-faces-requires-2 : tie.Need-find-faces-requires-2
-find-faces-requires-2 c κs =
-    let read = c .before .before .before .before .before .before .before .before .before in
-    let t = second-read (read .before .before .before .before) in
-    let taken = read .read-list3 .ensures in (
-      (omega arith, omega arith, omega (arith, triangles-found t .count, triangles-taken t .read-list2 .ensures .few)),
+read-tetrahedra-requires : tie.Need-read-tetrahedra-requires
+read-tetrahedra-requires c κs =
+    let over = c .before .before .before .before .before in
+    let t = second-read over in
+    let e = before-them over in
+    let room = start e .pre .0 in (
+      subst (λ (n : ℕ). RoomAt (job e) n 4 (length (start e .args .s-keys .now))) (sym (triangles-end over)) (room .tetrahedra),
       (
-        triangles-indexed t .chained,
-        ((taken .indexed .chained .keyed, omega (arith, taken .few, start (edges-before t) .pre .0 .tetrahedron-sides)), taken .within),
+        room .tetrahedron-sides,
+        (triangles-indexed t .chained, omega (arith, triangles-found t .count, triangles-taken t .read-list2 .ensures .few)),
       ),
     )
 
+-- the last call, at the end
+abbrev last : tie.After-slice-known14 → tie.After-read-tetrahedra
+last c = c .before .before .before .before
+
 same-length-9 : tie.Need-same-length-9
-same-length-9 c = before-them (lists-read (c .before .before)) .read-list .kept .1 .1 .1 .1 .0
+same-length-9 c = before-them (lists-read (last c)) .read-list .kept .1 .1 .1 .1 .0
 
 same-length-10 : tie.Need-same-length-10
-same-length-10 c = before-them (lists-read (c .before .before)) .read-list .kept .1 .1 .1 .1 .1 .0
+same-length-10 c = before-them (lists-read (last c)) .read-list .kept .1 .1 .1 .1 .1 .0
 
 same-length-11 : tie.Need-same-length-11
-same-length-11 c = before-them (lists-read (c .before .before)) .read-list .kept .1 .1 .1 .1 .1 .1 .0
+same-length-11 c = before-them (lists-read (last c)) .read-list .kept .1 .1 .1 .1 .1 .1 .0
 
 same-length-12 : tie.Need-same-length-12
-same-length-12 c = triangles-taken (second-read (lists-read (c .before .before))) .read-list2 .kept .1 .1 .1 .1 .0
+same-length-12 c = triangles-taken (second-read (lists-read (last c))) .read-list2 .kept .1 .1 .1 .1 .0
 
 same-length-13 : tie.Need-same-length-13
 same-length-13 c = search needs
@@ -263,39 +282,55 @@ same-length-15 c = search needs
 
 returns-3 : tie.Need-returns-3
 returns-3 c =
-    let read = c .before .before in
+    let read = last c in
     let told = lists-read read in
-    let taken = tetrahedra-taken read in
     let t = second-read told in
     let e = before-them told in
     let v = start e .args .v in
     let room = start e .pre .0 in
-    let tetrahedra = read .find-faces2 .result in
-    let keys = taken .read-list3 .last .1 .1 .1 .1 .0 in
-    let found = read .find-faces2 .ensures _ _ (taken .read-list3 .ensures) _ (under-tetrahedra told) in
+    let tetrahedra = read .read-tetrahedra .result in
+    let listed = tetrahedra-held read in
+    let edges-in = e .read-list .ensures .indexed in
+    let taken = triangles-taken t .read-list2 in
     record {
       reads =
           all-lists (job e) (start e .args .at) v _ (edges-fine (over-edges (triangles-taken t))) _ (triangles-fine told) (tetrahedra .verdict)
-          (record { list = simplicesIn 4 keys (tetrahedra .count); next = tetrahedra .next }) (sym (found .reads));
+          (record { list = simplicesIn 4 (tetrahedron-keys read) (tetrahedra .count); next = tetrahedra .next }) (sym (listed .reads));
       held = λ f few. record {
         sound =
             complex-sound v _ _ _ few (edges-known (over-edges (triangles-taken t))) (triangles-known told)
             (list-known (job e) (triangles t .next) 4 v _ _ (omega arith)
-            (list-fine (job e) (triangles t .next) 4 v _ keys tetrahedra (found .reads) f));
+            (list-fine (job e) (triangles t .next) 4 v _ (tetrahedron-keys read) tetrahedra (listed .reads) f));
         room = record {
-          edges = omega (arith, room .edges, e .read-list .kept .1 .1 .1 .1 .0);
-          triangles = omega (arith, room .triangles, triangles-taken t .read-list2 .kept .1 .1 .1 .1 .0);
-          tetrahedra = omega (arith, room .tetrahedra, taken .read-list3 .kept .1 .1 .1 .1 .0);
-          triangle-sides = omega (arith, room .triangle-sides, t .find-faces .kept .1 .1 .1 .1 .1 .1 .1 .1 .1 .0);
-          tetrahedron-sides = omega (arith, room .tetrahedron-sides, read .find-faces2 .kept .1 .1 .1 .1 .1 .1 .1 .1 .1 .0);
+          edges = omega (arith, edges-in .chained .keyed, edges-in .keyed .count);
+          triangles = omega (arith, triangles-indexed t .chained .keyed, triangles-indexed t .keyed .count);
+          tetrahedra = omega (arith, listed .within, listed .keyed .count);
+          triangle-sides =
+              omega (
+                arith,
+                triangles-indexed t .chained .keyed,
+                triangles-indexed t .keyed .count,
+                room .triangle-sides,
+                taken .kept .1 .1 .1 .1 .0,
+                t .find-faces .kept .1 .1 .1 .1 .1 .1 .1 .1 .1 .0,
+              );
+          tetrahedron-sides =
+              omega (
+                arith,
+                listed .within,
+                listed .keyed .count,
+                room .tetrahedron-sides,
+                read .read-tetrahedra .kept .1 .1 .1 .1 .1 .1 .1 .0,
+                read .read-tetrahedra .kept .1 .1 .1 .1 .1 .1 .1 .1 .0,
+              );
         };
-        edges = e .read-list .ensures .indexed .keyed;
+        edges = edges-in .keyed;
         triangles = triangles-indexed t .keyed;
-        tetrahedra = counted 4 (sym (found .count)) (taken .read-list3 .ensures .indexed) .keyed;
+        tetrahedra = listed .keyed;
         triangle-sides = triangles-found t .sided (told .enum-told2 .given .1);
-        tetrahedron-sides = found .sided f;
+        tetrahedron-sides = listed .sided f;
       };
-      linked = λ f. e .read-list .ensures .indexed;
+      linked = λ f. edges-in;
     }
 
 pub read-lists-spec : {M : Type 1} → statement M
@@ -323,12 +358,9 @@ read-lists-spec =
     same-length-8
     returns-2
     enum-told-2
-    slice-aggregate-read-list-3
-    slice-aggregate-read-list-4
-    read-list-requires-3
-    slice-aggregate-find-faces
-    slice-aggregate-find-faces-2
-    find-faces-requires-2
+    slice-aggregate-read-tetrahedra
+    slice-aggregate-read-tetrahedra-2
+    read-tetrahedra-requires
     same-length-9
     same-length-10
     same-length-11

@@ -4,6 +4,7 @@ use Prim.Native.Nat.{ℕ, _≤_}
 use mathlib.Core.Path.{refl}
 use native.Mathlib.Omega.{arith}
 use lib.ListN.{length, length-replicate}
+use Rattle.lookup.specs.IndexLaws.{zeros-blank}
 use Rattle.lent_lists.proofs.Holding.{holding}
 use borrow.Author.Needs.{needs}
 use Rattle.lent_lists.proofs.hold.Statement.{statement}
@@ -16,7 +17,7 @@ slice-aggregate-index-2 : tie.Need-slice-aggregate-index-2
 slice-aggregate-index-2 c = search needs
 
 index-requires : tie.Need-index-requires
-index-requires c κs = search needs
+index-requires c κs = (zeros-blank, (c .before .before .before .before .before .before .before .before) .pre .edges)
 
 slice-aggregate-index-3 : tie.Need-slice-aggregate-index-3
 slice-aggregate-index-3 c = search needs
@@ -25,7 +26,7 @@ slice-aggregate-index-4 : tie.Need-slice-aggregate-index-4
 slice-aggregate-index-4 c = search needs
 
 index-requires-2 : tie.Need-index-requires-2
-index-requires-2 c κs = search needs
+index-requires-2 c κs = search (needs, zeros-blank)
 
 slice-aggregate-index-5 : tie.Need-slice-aggregate-index-5
 slice-aggregate-index-5 c = search needs
@@ -34,7 +35,7 @@ slice-aggregate-index-6 : tie.Need-slice-aggregate-index-6
 slice-aggregate-index-6 c = search needs
 
 index-requires-3 : tie.Need-index-requires-3
-index-requires-3 c κs = search needs
+index-requires-3 c κs = search (needs, zeros-blank)
 
 slice-aggregate-find-sides : tie.Need-slice-aggregate-find-sides
 slice-aggregate-find-sides c = search needs
@@ -63,7 +64,7 @@ find-sides-requires c κs =
         omega arith,
         omega (arith, edges .1),
         triangles .0 .chained .keyed,
-        omega (arith, triangles .1, begin all .pre .triangle-sides),
+        omega (arith, triangles .0 .keyed .count, begin all .pre .triangle-sides),
       ),
     )
 
@@ -83,7 +84,7 @@ find-sides-requires-2 c κs =
         omega arith,
         omega (arith, triangles .1),
         tetrahedra .0 .chained .keyed,
-        omega (arith, tetrahedra .1, begin all .pre .tetrahedron-sides),
+        omega (arith, tetrahedra .0 .keyed .count, begin all .pre .tetrahedron-sides),
       ),
     )
 

@@ -3,7 +3,7 @@
 -- Assumes nothing.
 use mathlib.Core.Path.{refl}
 use Rattle.lent_lists.specs.HeldLaws.{held-roomy}
-use Rattle.lent_lists.proofs.Editing.{editing-none, editing-refused, editing-done}
+use Rattle.lent_lists.proofs.Editing.{editing-none, editing-refused, editing-room, editing-done}
 use borrow.Author.Needs.{needs}
 use Rattle.lent_lists.proofs.take_edits.Statement.{statement}
 use Rattle.lent_lists.proofs.take_edits.Tie as tie
@@ -39,7 +39,11 @@ enum-told : tie.Need-enum-told
 enum-told c = search needs
 
 hold-requires : tie.Need-hold-requires
-hold-requires c κs = c .before .before .before .before .before .before .before .before .before .before .before .before .before .before .before .before .before .before .before .before .before .pre .room
+hold-requires c κs =
+    let told = c .before .before .before .before .before .before .before in
+    let read = told .before .before in
+    editing-room (read .before .complex-of .ensures) (read .read-edits .ensures) (told .enum-told .given .1)
+    (read .before .before .before .before .before .before .before .before .before .before .before .before .pre .room)
 
 same-length-4 : tie.Need-same-length-4
 same-length-4 c = search needs

@@ -1,8 +1,9 @@
 -- `index` meets its contract: the simplices are entered in rank order.
 -- Assumes nothing.
 use Prim.Native.Nat.{_-_, _<_}
-use mathlib.Core.Path.{sym, _∙_}
+use mathlib.Core.Path.{_≡_, sym, _∙_}
 use native.Mathlib.Omega.{arith}
+use lib.ListN.{length}
 use Rattle.lists.specs.Meaning.{simplicesOf}
 use Rattle.lists.specs.Items.{length-mapped, counted, length-simplices, simplex-at}
 use Rattle.lookup.specs.IndexLaws.{Indexing, indexing-start, indexing-on, indexing-end}
@@ -22,13 +23,17 @@ least-requires c κs = search needs
 loop-holds : tie.Need-loop-holds Inv-loop μ-loop
 loop-holds c =
     let start = c .before .before .before .before in
-    indexing-start (simplicesOf (start .args .t1)) _ (counted _ _ (search (needs, length-mapped)) (c .least .ensures)) (start .pre .none)
+    indexing-start (simplicesOf (start .args .t1)) _ (counted _ _ (search (needs, length-mapped)) (c .least .ensures)) (start .pre .0 .none)
 
 mul-enter : tie.Need-mul-enter Inv-loop μ-loop
 mul-enter c = search needs
 
 element-copy-out-enter : tie.Need-element-copy-out-enter Inv-loop μ-loop
 element-copy-out-enter c = omega (arith, c .before .before .before .loop-test .taken, c .before .before .before .before .before .least .ensures)
+
+-- all of the list's simplices are entered
+whole : (c : tie.In-loop Inv-loop μ-loop) → c .before .before .least .result ≡ length (simplicesOf (c .before .before .before .before .before .before .args .t1))
+whole c = counted _ _ (search (needs, length-mapped)) (c .before .before .least .ensures)
 
 enter-requires : tie.Need-enter-requires Inv-loop μ-loop
 enter-requires c κs =
@@ -37,7 +42,11 @@ enter-requires c κs =
     let start = turn .before .before .before .before .before .before in
     let below : turn .before .loop .i < 512 = omega (arith, turn .loop-test .taken, turn .before .before .least .ensures) in (
       now .entered .chained,
-      (omega (arith, now .keys-long, start .pre .keys-room), omega (arith, now .next-long, start .pre .next-room), omega (arith, below)),
+      (
+        omega (arith, now .keys-long, turn .loop-test .taken, whole turn, start .pre .1),
+        omega (arith, now .next-long, start .pre .0 .room),
+        omega (arith, below),
+      ),
     )
 
 add-i : tie.Need-add-i Inv-loop μ-loop

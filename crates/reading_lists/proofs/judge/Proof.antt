@@ -10,35 +10,37 @@ use borrow.Author.Needs.{needs}
 use Rattle.reading_lists.proofs.judge.Statement.{statement}
 use Rattle.reading_lists.proofs.judge.Tie as tie
 
-entered-requires : tie.Need-entered-requires
-entered-requires c κs = search needs
-
 unsound-edge-requires : tie.Need-unsound-edge-requires
 unsound-edge-requires c κs = search needs
-
--- what is known of the item
-abbrev start : tie.After-unsound-edge → tie.Start
-start c = c .before .before .before .before .before .before
-
-wide : (c : tie.After-unsound-edge) → let a = start c .args in length (take (a .width) (drop (a .at) (now (a .p)))) ≡ a .width
-wide c = let a = start c .args in length-part (now (a .p)) (a .at) (a .width) (start c .pre .1 .0)
 
 returns : tie.Need-returns
 returns c = λ before proper keyed. judged-unsound _ _ _ (sym (c .before .unsound-edge .ensures) ∙ c .if1 .taken) before
 
+entered-requires : tie.Need-entered-requires
+entered-requires c κs = search needs
+
+-- what is known of an item that is no unsound edge
+module _ (c : tie.After-entered) where
+  abbrev tried : tie.After-unsound-edge
+  tried = c .before .before
+
+  abbrev start : tie.Start
+  start = tried .before .before .before .before .before
+
+  wide : let a = start .args in length (take (a .width) (drop (a .at) (now (a .p)))) ≡ a .width
+  wide = let a = start .args in length-part (now (a .p)) (a .at) (a .width) (start .pre .1 .0)
+
 returns-2 : tie.Need-returns-2
 returns-2 c = λ before proper keyed.
-    let passed = c .before in
-    let tried = passed .before in
-    judged-twice _ _ _ (wide tried) (start tried .pre .1 .1) (sym (tried .unsound-edge .ensures) ∙ passed .if1 .left)
-    (tried .before .entered .ensures) before proper keyed (c .if2 .taken)
+    let looked = c .before in
+    judged-twice _ _ _ (wide looked) (start looked .pre .1 .1) (sym (tried looked .unsound-edge .ensures) ∙ looked .before .if1 .left)
+    (looked .entered .ensures) before proper keyed (c .if2 .taken)
 
 returns-3 : tie.Need-returns-3
 returns-3 c = λ before proper keyed.
-    let passed = c .before in
-    let tried = passed .before in
-    judged-new _ _ _ (wide tried) (start tried .pre .1 .1) (sym (tried .unsound-edge .ensures) ∙ passed .if1 .left)
-    (tried .before .entered .ensures) before proper keyed (c .if2 .left)
+    let looked = c .before in
+    judged-new _ _ _ (wide looked) (start looked .pre .1 .1) (sym (tried looked .unsound-edge .ensures) ∙ looked .before .if1 .left)
+    (looked .entered .ensures) before proper keyed (c .if2 .left)
 
 pub judge-spec : {M : Type 1} → statement M
-judge-spec = tie.close (tie.spec entered-requires unsound-edge-requires returns returns-2 returns-3)
+judge-spec = tie.close (tie.spec unsound-edge-requires returns entered-requires returns-2 returns-3)

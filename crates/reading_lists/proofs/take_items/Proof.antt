@@ -19,7 +19,7 @@ abbrev μ-loop : tie.MeasureT-loop
 μ-loop p base v width keys₀ first₀ next₀ count₀ at₀ keys first next count at = length p - at
 
 loop-holds : tie.Need-loop-holds Inv-loop μ-loop
-loop-holds c = taking-start (c .before .before .before .before .pre .1)
+loop-holds c = let given = c .before .before .before .before .pre in taking-start (given .1 .0) (given .1 .1)
 
 sub-loop : tie.Need-sub-loop Inv-loop μ-loop
 sub-loop c = search needs

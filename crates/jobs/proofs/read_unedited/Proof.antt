@@ -1,4 +1,4 @@
--- `jobs::read_numbers` meets its contract: the length, the head's record, the head, and then the lists.
+-- `jobs::read_unedited` meets its contract: the length, the head's record, the head, and then the rest.
 -- Assumes nothing.
 use Prim.Native.Nat.{ℕ, _≤_}
 use mathlib.Core.Path.{_≡_, sym, _∙_, ap}
@@ -13,10 +13,10 @@ use Rattle.format.specs.Places.{too-long}
 use Rattle.lists.specs.Verdicts.{told}
 use Rattle.heads.specs.Meaning.{headReading}
 use Rattle.stages.specs.Meaning.{openedOf}
-use Rattle.jobs.proofs.Laws.{told-refused, told-same, head-refused, head-misshapen, head-bad, head-fine, head-known}
+use Rattle.jobs.proofs.Laws.{unedited-refused, unedited-same, head-refused, head-misshapen, head-bad, head-fine, head-known}
 use borrow.Author.Needs.{needs}
-use Rattle.jobs.proofs.read_numbers.Statement.{statement}
-use Rattle.jobs.proofs.read_numbers.Tie as tie
+use Rattle.jobs.proofs.read_unedited.Statement.{statement}
+use Rattle.jobs.proofs.read_unedited.Tie as tie
 
 -- the first record is whole and a head's
 module _ (c : tie.After-opened2) where
@@ -50,7 +50,7 @@ refused-requires : tie.Need-refused-requires
 refused-requires c κs = search needs
 
 returns : tie.Need-returns
-returns c = told-refused _ (c .refused .result) _ _ (too-long small _ (c .before .if1 .taken)) (c .refused .ensures)
+returns c = unedited-refused _ (c .refused .result) _ _ (too-long small _ (c .before .if1 .taken)) (c .refused .ensures)
 
 open-requires : tie.Need-open-requires
 open-requires c κs = search needs
@@ -70,7 +70,7 @@ refused-requires-3 c κs = search needs
 returns-2 : tie.Need-returns-2
 returns-2 c =
     let record-open = c .before .before .before in
-    told-refused _ (c .refused3 .result) _ _
+    unedited-refused _ (c .refused3 .result) _ _
     (head-misshapen (job record-open) (short record-open) (size record-open) (whole record-open) (c .before .if2 .taken)) (c .refused3 .ensures)
 
 payload-requires : tie.Need-payload-requires
@@ -92,14 +92,14 @@ after-head-requires : tie.Need-after-head-requires
 after-head-requires c κs =
     let read = c .before .before .before .before .before .before in
     let record-open = read .before .before .before .before .before .before in
-    (short record-open, (head-known _ _ _ (read .before .before .read-head .ensures) (read .read .given .1), start record-open .pre))
+    (short record-open, (head-known _ _ _ (read .before .before .read-head .ensures) (read .read .given .1), start record-open .pre (short record-open)))
 
 returns-3 : tie.Need-returns-3
 returns-3 c =
     let kind = c .before .before in
     let tried = kind .before .before in
     let b = tried .before .before .before .before .before .before .before .before .args .job .now in
-    told-refused _ (c .refused2 .result) _ _
+    unedited-refused _ (c .refused2 .result) _ _
     (head-refused b (omega (arith, tried .before .if1 .left)) _ (told (openedOf 0) _ _ _ (tried .«open» .ensures) (kind .opened .given .1)))
     (c .refused2 .ensures)
 
@@ -107,7 +107,7 @@ returns-4 : tie.Need-returns-4
 returns-4 c =
     let read = c .before .before .before in
     let record-open = read .before .before .before .before in
-    told-refused _ (c .refused4 .result) _ _
+    unedited-refused _ (c .refused4 .result) _ _
     (head-bad (job record-open) (short record-open) (size record-open) (whole record-open) (four read)
     (told headReading _ _ _ (head-read read) (c .before .enum-told .given .1)))
     (c .refused4 .ensures)
@@ -132,13 +132,13 @@ returns-5 c =
     let done = c .before .before .before .before .before .before .before .before .before .before in
     let read = done .before .before .before .before .before .before .before .before .before in
     let record-open = read .before .before .before .before in
-    told-same (done .after-head .result)
+    unedited-same (done .after-head .result)
     (head-fine (job record-open) (short record-open) (size record-open) (whole record-open) (four read) _
     (told headReading _ _ _ (head-read read) (done .before .before .before .before .before .before .before .read .given .1)))
     (done .after-head .ensures)
 
-pub read-numbers-spec : {M : Type 1} → statement M
-read-numbers-spec =
+pub read-unedited-spec : {M : Type 1} → statement M
+read-unedited-spec =
     tie.close
     (tie.spec
     refused-requires
