@@ -212,7 +212,7 @@ pub fn answer_in(
     t_sides: &mut [u64],
     s_sides: &mut [u64],
 ) -> usize
-    requires { ⌜ (length (now job) ≤ 6690 → FileRoom (now job) 10 (now «e_keys») (now «t_keys») (now «s_keys») (now «t_sides») (now «s_sides»)) ⌝ }
+    requires { ⌜ FileRoom (now job) 10 (now «e_keys») (now «t_keys») (now «s_keys») (now «t_sides») (now «s_sides») ⌝ }
     requires { ⌜ 2055 ≤ length (now out) ⌝ }
     requires { ⌜ 65536 ≤ length (now work) ⌝ }
     ensures { λ r. ⌜ AnswersFile (now (job .entry)) (now (out .entry)) (now (out .exit)) r ⌝ }

@@ -93,7 +93,7 @@ pub fn chain_dimension(head: Head) -> usize
 }
 
 // How many bytes the records of the edges, the triangles and the tetrahedra hold, as far as they stand where they should: what
-// room the reading of the lists takes. Of a file that is too long nothing is looked at.
+// room the reading of the lists takes.
 pub struct Sizes {
     pub edges: usize,
     pub triangles: usize,
@@ -101,15 +101,8 @@ pub struct Sizes {
 }
 
 pub fn list_sizes(job: &[u8]) -> Sizes
-    ensures { λ r. ⌜ (length (now (job .entry)) ≤ 6690 → SizesTold (now (job .entry)) 10 r) ⌝ }
+    ensures { λ r. ⌜ SizesTold (now (job .entry)) 10 r ⌝ }
 {
-    if JobRead::BYTES < job.len() {
-        return Sizes {
-            edges: 0,
-            triangles: 0,
-            tetrahedra: 0,
-        };
-    }
     let edges = stages::list_bytes(job, 10, SimplexList::EDGES);
     let behind_edges = 10 + Header::BYTES + edges;
     let triangles = stages::list_bytes(job, behind_edges, SimplexList::TRIANGLES);
@@ -359,7 +352,7 @@ pub fn read_unedited(
     t_sides: &mut [u64],
     s_sides: &mut [u64],
 ) -> NumbersRead
-    requires { ⌜ (length (now job) ≤ 6690 → FileRoom (now job) 10 (now «e_keys») (now «t_keys») (now «s_keys») (now «t_sides») (now «s_sides»)) ⌝ }
+    requires { ⌜ FileRoom (now job) 10 (now «e_keys») (now «t_keys») (now «s_keys») (now «t_sides») (now «s_sides») ⌝ }
     ensures { λ r. ⌜ Unedited (reading small (now (job .entry))) (now (job .entry)) (now («e_keys» .exit)) (now («t_keys» .exit)) (now («s_keys» .exit)) (now («t_sides» .exit)) (now («s_sides» .exit)) r ⌝ }
 {
     if JobRead::BYTES < job.len() {

@@ -15,7 +15,7 @@ const FEW: usize = 128;
 
 // Answers a small job without tetrahedra.
 fn answer_few(job: &[u8], out: &mut [u8], work: &mut [u8]) -> usize
-    requires { ⌜ (length (now job) ≤ 6690 → FileRoom (now job) 10 (replicate 128 0) (replicate 128 0) (replicate 0 0) (replicate 128 0) (replicate 0 0)) ⌝ }
+    requires { ⌜ FileRoom (now job) 10 (replicate 128 0) (replicate 128 0) (replicate 0 0) (replicate 128 0) (replicate 0 0) ⌝ }
     requires { ⌜ 2055 ≤ length (now out) ⌝ }
     requires { ⌜ 65536 ≤ length (now work) ⌝ }
     ensures { λ r. ⌜ AnswersFile (now (job .entry)) (now (out .entry)) (now (out .exit)) r ⌝ }
@@ -39,7 +39,7 @@ fn answer_few(job: &[u8], out: &mut [u8], work: &mut [u8]) -> usize
 
 // Answers a job without tetrahedra.
 fn answer_flat(job: &[u8], out: &mut [u8], work: &mut [u8]) -> usize
-    requires { ⌜ (length (now job) ≤ 6690 → FileRoom (now job) 10 (replicate 512 0) (replicate 512 0) (replicate 0 0) (replicate 512 0) (replicate 0 0)) ⌝ }
+    requires { ⌜ FileRoom (now job) 10 (replicate 512 0) (replicate 512 0) (replicate 0 0) (replicate 512 0) (replicate 0 0) ⌝ }
     requires { ⌜ 2055 ≤ length (now out) ⌝ }
     requires { ⌜ 65536 ≤ length (now work) ⌝ }
     ensures { λ r. ⌜ AnswersFile (now (job .entry)) (now (out .entry)) (now (out .exit)) r ⌝ }

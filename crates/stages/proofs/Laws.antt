@@ -26,7 +26,7 @@ use Rattle.lookup.specs.Sides.{Sided, SidesTold}
 use Rattle.reading_lists.specs.Items.{lackOf, facesJudged, Shaped, ItemsTaken}
 use Rattle.reading_lists.specs.declared.ItemsRead.{ItemsRead}
 use Rattle.reading_lists.proofs.Facing.{Paid, edge-owes-none, others-owe, faces-listed, first-lacks}
-use Rattle.stages.specs.Meaning.{sizeOf, sizeAt, listRead, ListTaken, FacesFound}
+use Rattle.stages.specs.Meaning.{sizeOf, endAt, listRead, ListTaken, FacesFound}
 use Rattle.stages.specs.declared.ListRead.{ListRead}
 
 module _ (may : ℕ → Bool) (b : List ℕ) (at : ℕ) where
@@ -46,13 +46,13 @@ module _ (may : ℕ → Bool) (b : List ℕ) (at : ℕ) where
   unfolding openedFrom
   opened-may-not kind size e m = rw (e, m)
 
--- what stands behind a header is no longer than the file
-pub size-within : (b : List ℕ) (at kind : ℕ) → sizeAt b at kind ≤ length b
-size-within b at kind = go (opened (eqb kind) b at) refl
+-- a record ends within the file, and where none stands at a place, its end is a header further on
+pub end-within : (b : List ℕ) (at kind beyond : ℕ) → at ≤ length b + beyond → endAt b at kind ≤ length b + (beyond + headerBytes)
+end-within b at kind beyond le = go (opened (eqb kind) b at) refl
   where
-    go : (o : Reading ℕ) → opened (eqb kind) b at ≡ o → sizeOf o ≤ length b
+    go : (o : Reading ℕ) → opened (eqb kind) b at ≡ o → at + headerBytes + sizeOf o ≤ length b + (beyond + headerBytes)
     go (accepted size) e = omega (arith, opened-inside (eqb kind) b at size e)
-    go (refused number place) e = omega arith
+    go (refused number place) e = omega (arith, le)
 
 -- THE LIST STAGE.
 module _ (b : List ℕ) (at kind v : ℕ) (faces : List Simplex) where

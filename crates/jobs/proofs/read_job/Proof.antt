@@ -26,7 +26,7 @@ slice-aggregate-read-unedited-5 : tie.Need-slice-aggregate-read-unedited-5
 slice-aggregate-read-unedited-5 c = search needs
 
 read-unedited-requires : tie.Need-read-unedited-requires
-read-unedited-requires c κs = λ short. zeros-room _ 10
+read-unedited-requires c κs = zeros-room _ 10
 
 enum-known-verdict-unedited : tie.Need-enum-known-verdict-unedited
 enum-known-verdict-unedited c = search needs

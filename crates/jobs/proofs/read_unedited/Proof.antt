@@ -92,7 +92,7 @@ after-head-requires : tie.Need-after-head-requires
 after-head-requires c κs =
     let read = c .before .before .before .before .before .before in
     let record-open = read .before .before .before .before .before .before in
-    (short record-open, (head-known _ _ _ (read .before .before .read-head .ensures) (read .read .given .1), start record-open .pre (short record-open)))
+    (short record-open, (head-known _ _ _ (read .before .before .read-head .ensures) (read .read .given .1), start record-open .pre))
 
 returns-3 : tie.Need-returns-3
 returns-3 c =

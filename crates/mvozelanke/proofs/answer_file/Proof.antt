@@ -34,7 +34,7 @@ answer-flat-requires : tie.Need-answer-flat-requires
 answer-flat-requires c κs =
     let some = c .before .before .before .before in
     let given = start (read some) .pre in
-    (λ short. flat-room (read some .list-sizes .ensures short) (some .if1 .left), (given .0, given .1))
+    (flat-room (read some .list-sizes .ensures) (some .if1 .left), (given .0, given .1))
 
 same-length-3 : tie.Need-same-length-3
 same-length-3 c = search needs
@@ -52,7 +52,7 @@ answer-flat-requires-2 : tie.Need-answer-flat-requires-2
 answer-flat-requires-2 c κs =
     let some = c .before .before .before .before .before .before in
     let given = start (read some) .pre in
-    (λ short. flat-room (read some .list-sizes .ensures short) (some .if1 .left), (given .0, given .1))
+    (flat-room (read some .list-sizes .ensures) (some .if1 .left), (given .0, given .1))
 
 same-length-5 : tie.Need-same-length-5
 same-length-5 c = search needs
@@ -69,7 +69,7 @@ answer-few-requires c κs =
     let second = last .before .before in
     let some = second .before .before in
     let given = start (read some) .pre in
-    (λ short. few-room (read some .list-sizes .ensures short) (some .if1 .left) (second .if2 .left) (last .if3 .left), (given .0, given .1))
+    (few-room (read some .list-sizes .ensures) (some .if1 .left) (second .if2 .left) (last .if3 .left), (given .0, given .1))
 
 same-length-7 : tie.Need-same-length-7
 same-length-7 c = search needs
