@@ -3,6 +3,8 @@
 // zero first, so a small job gets small ones, and one without tetrahedra none for them (decision 25).
 use lists::SimplexList;
 use lists::Verdict;
+ghost use mathlib.Core.Path.{_≡_};
+ghost use mathlib.Core.Bool.{true};
 ghost use Prim.Native.Nat.{_≤_};
 ghost use lib.ListN.{length, replicate};
 ghost use Rattle.format.specs.Numbers.{small};
@@ -37,40 +39,31 @@ fn answer_few(job: &[u8], out: &mut [u8], work: &mut [u8]) -> usize
     )
 }
 
-// Answers a job without tetrahedra.
-fn answer_flat(job: &[u8], out: &mut [u8], work: &mut [u8]) -> usize
-    requires { ⌜ FileRoom (now job) 10 (replicate 512 0) (replicate 512 0) (replicate 0 0) (replicate 512 0) (replicate 0 0) ⌝ }
+// Answers any job; one that is told to be flat has no tetrahedra.
+fn answer_many(job: &[u8], out: &mut [u8], work: &mut [u8], flat: bool) -> usize
+    requires { ⌜ (flat ≡ true → FileRoom (now job) 10 (replicate 512 0) (replicate 512 0) (replicate 0 0) (replicate 512 0) (replicate 0 0)) ⌝ }
     requires { ⌜ 2055 ≤ length (now out) ⌝ }
     requires { ⌜ 65536 ≤ length (now work) ⌝ }
     ensures { λ r. ⌜ AnswersFile (now (job .entry)) (now (out .entry)) (now (out .exit)) r ⌝ }
 {
     let mut e_keys = [0u64; SimplexList::LIMIT];
     let mut t_keys = [0u64; SimplexList::LIMIT];
-    let mut s_keys = [0u64; 0];
     let mut t_sides = [0u64; SimplexList::LIMIT];
-    let mut s_sides = [0u64; 0];
-    answering::answer_in(
-        job,
-        out,
-        work,
-        &mut e_keys,
-        &mut t_keys,
-        &mut s_keys,
-        &mut t_sides,
-        &mut s_sides,
-    )
-}
-
-// Answers any job.
-fn answer_full(job: &[u8], out: &mut [u8], work: &mut [u8]) -> usize
-    requires { ⌜ 2055 ≤ length (now out) ⌝ }
-    requires { ⌜ 65536 ≤ length (now work) ⌝ }
-    ensures { λ r. ⌜ AnswersFile (now (job .entry)) (now (out .entry)) (now (out .exit)) r ⌝ }
-{
-    let mut e_keys = [0u64; SimplexList::LIMIT];
-    let mut t_keys = [0u64; SimplexList::LIMIT];
+    if flat {
+        let mut no_keys = [0u64; 0];
+        let mut no_sides = [0u64; 0];
+        return answering::answer_in(
+            job,
+            out,
+            work,
+            &mut e_keys,
+            &mut t_keys,
+            &mut no_keys,
+            &mut t_sides,
+            &mut no_sides,
+        );
+    }
     let mut s_keys = [0u64; SimplexList::LIMIT];
-    let mut t_sides = [0u64; SimplexList::LIMIT];
     let mut s_sides = [0u64; SimplexList::LIMIT];
     answering::answer_in(
         job,
@@ -92,13 +85,13 @@ fn answer_file(job: &[u8], out: &mut [u8], work: &mut [u8]) -> usize
 {
     let sizes = jobs::list_sizes(job);
     if 0 < sizes.tetrahedra {
-        return answer_full(job, out, work);
+        return answer_many(job, out, work, false);
     }
     if 2 * FEW < sizes.edges {
-        return answer_flat(job, out, work);
+        return answer_many(job, out, work, true);
     }
     if 3 * FEW < sizes.triangles {
-        return answer_flat(job, out, work);
+        return answer_many(job, out, work, true);
     }
     answer_few(job, out, work)
 }

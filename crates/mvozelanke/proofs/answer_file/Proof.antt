@@ -1,5 +1,6 @@
 -- `mvozelanke::answer_file` meets its contract: the sizes of the records say that what is lent is room enough.
 -- Assumes nothing.
+use mathlib.Core.Bool.{false≢true}
 use Rattle.mvozelanke.proofs.Laws.{flat-room, few-room}
 use borrow.Author.Needs.{needs}
 use Rattle.mvozelanke.proofs.answer_file.Statement.{statement}
@@ -15,8 +16,10 @@ start c = c .before .before .before .before
 list-sizes-requires : tie.Need-list-sizes-requires
 list-sizes-requires c κs = search needs
 
-answer-full-requires : tie.Need-answer-full-requires
-answer-full-requires c κs = search needs
+answer-many-requires : tie.Need-answer-many-requires
+answer-many-requires c κs =
+    let given = start (c .before .before .before .before) .pre in
+    (λ e. absurd (false≢true e), (given .0, given .1))
 
 same-length : tie.Need-same-length
 same-length c = search needs
@@ -30,11 +33,11 @@ returns c = search needs
 mul-if2 : tie.Need-mul-if2
 mul-if2 c = search needs
 
-answer-flat-requires : tie.Need-answer-flat-requires
-answer-flat-requires c κs =
+answer-many-requires-2 : tie.Need-answer-many-requires-2
+answer-many-requires-2 c κs =
     let some = c .before .before .before .before in
     let given = start (read some) .pre in
-    (flat-room (read some .list-sizes .ensures) (some .if1 .left), (given .0, given .1))
+    (λ _. flat-room (read some .list-sizes .ensures) (some .if1 .left), (given .0, given .1))
 
 same-length-3 : tie.Need-same-length-3
 same-length-3 c = search needs
@@ -48,11 +51,11 @@ returns-2 c = search needs
 mul-if3 : tie.Need-mul-if3
 mul-if3 c = search needs
 
-answer-flat-requires-2 : tie.Need-answer-flat-requires-2
-answer-flat-requires-2 c κs =
+answer-many-requires-3 : tie.Need-answer-many-requires-3
+answer-many-requires-3 c κs =
     let some = c .before .before .before .before .before .before in
     let given = start (read some) .pre in
-    (flat-room (read some .list-sizes .ensures) (some .if1 .left), (given .0, given .1))
+    (λ _. flat-room (read some .list-sizes .ensures) (some .if1 .left), (given .0, given .1))
 
 same-length-5 : tie.Need-same-length-5
 same-length-5 c = search needs
@@ -85,17 +88,17 @@ answer-file-spec =
     tie.close
     (tie.spec
     list-sizes-requires
-    answer-full-requires
+    answer-many-requires
     same-length
     same-length-2
     returns
     mul-if2
-    answer-flat-requires
+    answer-many-requires-2
     same-length-3
     same-length-4
     returns-2
     mul-if3
-    answer-flat-requires-2
+    answer-many-requires-3
     same-length-5
     same-length-6
     returns-3
