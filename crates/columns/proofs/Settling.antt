@@ -1,16 +1,21 @@
 -- The loop that reduces until it is stuck: no row from `left` up is both held and dealt with later, so what the
 -- reduction of the start settles to is what the reduction of the pair in hand, over the rows below `left`, settles to.
-use Prim.Native.Nat.{ℕ, suc, _*_, _≤_, _<_}
-use mathlib.Core.Path.{_≡_, refl, sym, ap, ap₂, _∙_}
+use Prim.Native.Nat.{ℕ, suc, _+_, _-_, _*_, _/_, _%_, _≤_, _<_}
+use mathlib.Core.Path.{_≡_, refl, sym, ap, ap₂, _∙_, subst}
 use mathlib.Core.Bool.{Bool, true, false}
 use mathlib.Core.List.{List}
+use native.Mathlib.Nat.{mul-mod-left}
 use native.Mathlib.Omega.{arith}
-use lib.ListN.{length, set}
-use Rattle.columns.specs.Column.{bitAt, chainOf, xorBytes}
-use Rattle.columns.specs.ColumnLaws.{length-xor}
-use Rattle.columns.specs.Slot.{slot, takenAt, storeSlot}
-use Rattle.columns.specs.SlotLaws.{bit-halfR}
-use Rattle.columns.specs.Search.{highestBelow, HighestAt, highest-at, highest-nothing}
+use lib.ListN.{length, getD, set, drop}
+use lib.Seq.{getD-take, getD-drop}
+use lib.Bits.{bitXor}
+use Rattle.chains.specs.Chain.{Chain, differ}
+use Rattle.columns.specs.Column.{bit, bitAt, chainOf, xorBytes}
+use Rattle.columns.specs.ColumnLaws.{bit-xor, length-xor, chainOf-xor}
+use Rattle.columns.specs.Slot.{roomOf, slot, takenAt, storeSlot}
+use Rattle.columns.specs.SlotLaws.{bit-halfR, length-slot}
+use Rattle.columns.specs.Word.{WordAt}
+use Rattle.columns.specs.Search.{highestBelow, HighestAt, highest-held, highest-skip, highest-at, highest-nothing}
 use Rattle.columns.specs.Reduce.{heldAt, redBytes, rowsLeft, Settled, settled, Settles, storedAt, takenWith, Inserts}
 use Rattle.columns.specs.ReduceLaws.{row-add, stuck, not-stuck, settled-stuck, settled-on, settled-skip, settled-red, settled-at, length-settled}
 use Rattle.columns.specs.declared.Highest.{Highest}
@@ -78,6 +83,138 @@ module _ {h : ℕ} {work : List ℕ} {taken : List Bool} {rows : ℕ} {start cur
           ∙ settled-on h work taken r cur (not-stuck h work taken r cur full)
           ∙ ap (settled h work taken r) (row-add h work taken r cur held full ∙ sym e);
     }
+
+-- ---- words of sums
+
+-- the bits of a slot are those of the memory from where it begins
+bit-slot : (h : ℕ) (work : List ℕ) (r i : ℕ) → i < 8 * (2 * h) → bitAt (slot h work r) i ≡ bitAt work (8 * (r * (2 * h)) + i)
+unfolding bitAt slot
+bit-slot h work r i l =
+    let from : ℕ = r * (2 * h) in
+    let byte : (8 * from + i) / 8 ≡ from + i / 8 = omega arith in
+    let place : (8 * from + i) % 8 ≡ i % 8 = omega arith in
+    ap (λ (x : ℕ). bit x (i % 8))
+    (getD-take (2 * h) (drop from work) (i / 8) 0 (omega arith) ∙ getD-drop from work (i / 8) 0 ∙ ap (λ (n : ℕ). getD work n 0) (sym byte))
+    ∙ ap (bit (getD work ((8 * from + i) / 8) 0)) (sym place)
+
+-- the word of a pair to which a slot was added is the sum of the two words
+word-sum : (h : ℕ) (work : List ℕ) (r : ℕ) → r < 8 * h → roomOf h ≤ length work → (cur : List ℕ) (at word other : ℕ)
+    → length cur ≡ 2 * h → at + 8 ≤ 2 * h → WordAt cur at word → WordAt work (r * (2 * h) + at) other
+    → WordAt (xorBytes cur (slot h work r)) at (bitXor word other)
+word-sum h work r low room cur at word other pair within w v = record {
+  holds = λ k l.
+      let place : 8 * (r * (2 * h) + at) + k ≡ 8 * (r * (2 * h)) + (8 * at + k) = omega arith in
+      bit-xor word other k
+      ∙ ap₂ differ (w .holds k l) (v .holds k l ∙ ap (bitAt work) place ∙ sym (bit-slot h work r (8 * at + k) (omega arith)))
+      ∙ sym (ap (λ (c : Chain). c (8 * at + k)) (chainOf-xor cur (slot h work r) (omega (arith, length-slot h work r low room))));
+}
+
+-- ---- the same loop with a word of the pair kept beside it: the bits of the word are those of the pair from byte `at` on
+
+pub record Scanning (h : ℕ) (work : List ℕ) (taken : List Bool) (rows : ℕ) (start cur : List ℕ) (at left word : ℕ) : Type 0 where
+  pub settling : Settling h work taken rows start cur (at * 8 + left)
+  pub read : WordAt cur at word
+  pub few : left ≤ 64
+  pub whole : at % 8 ≡ 0
+
+pub scanning-start : (h : ℕ) (work : List ℕ) (taken : List Bool) (rows : ℕ) (start : List ℕ) (word : ℕ) → rows ≤ 8 * h
+    → WordAt start (rows / 64 * 8) word → Scanning h work taken rows start start (rows / 64 * 8) (rows % 64) word
+scanning-start h work taken rows start word l w =
+    let parts : rows ≡ rows / 64 * 8 * 8 + rows % 64 = omega arith in
+    record {
+      settling = subst (Settling h work taken rows start start) parts (settling-start h work taken rows start l);
+      read = w;
+      few = omega arith;
+      whole = omega arith;
+    }
+
+module _ {h : ℕ} {work : List ℕ} {taken : List Bool} {rows : ℕ} {start cur : List ℕ} {at left word : ℕ}
+    (s : Scanning h work taken rows start cur at left word) where
+  -- where the word stands, it is within the first half of the pair
+  pub scan-low : at ≤ h
+  scan-low = omega (arith, s .settling .low, s .settling .within)
+
+  module _ {answer : Highest} (searched : answer ≡ highestBelow (bit word) left) where
+    -- a bit of the word that is searched is a row of the pair
+    word-row : (j : ℕ) → at * 8 ≤ j → j < at * 8 + left → bit word (j - at * 8) ≡ bitAt cur j
+    word-row j p q =
+        let same : 8 * at + (j - at * 8) ≡ j = omega arith in
+        s .read .holds (j - at * 8) (omega (arith, s .few)) ∙ ap (bitAt cur) same
+
+    -- ---- the word holds no row: they are all passed over
+
+    module _ (none : answer ≡ Nothing) where
+      passed : Settling h work taken rows start cur (at * 8)
+      passed = record {
+        low = s .settling .low;
+        within = omega (arith, s .settling .within);
+        long = s .settling .long;
+        same = s .settling .same
+            ∙ settled-skip h work taken (at * 8) (at * 8 + left) cur (omega arith)
+            (λ j p q.
+            bit-halfR h cur j (omega (arith, s .settling .low, s .settling .within))
+            ∙ sym (word-row j p q)
+            ∙ highest-nothing (bit word) left (sym searched ∙ none) (j - at * 8) (omega arith));
+      }
+
+      -- it was the lowest word
+      pub scanning-end : at ≡ 0 → Settles h work taken rows start Nothing cur
+      unfolding highestBelow
+      scanning-end z =
+          let through : Settling h work taken rows start cur 0 = subst (λ (n : ℕ). Settling h work taken rows start cur (n * 8)) z passed in
+          settling-end through {answer = Nothing} refl refl
+
+      -- on with the word below
+      pub scanning-down : (at ≡ 0 → ⊥) → (next : ℕ) → WordAt cur (at - 8) next
+          → Scanning h work taken rows start cur (at - 8) 64 next
+      scanning-down some next w =
+          let parts : at * 8 ≡ (at - 8) * 8 + 64 = omega (arith, s .whole) in
+          let lower : at - 8 ≡ (at / 8 - 1) * 8 = omega (arith, s .whole) in
+          record {
+            settling = subst (Settling h work taken rows start cur) parts passed;
+            read = w;
+            few = omega arith;
+            whole = ap (λ (n : ℕ). n % 8) lower ∙ mul-mod-left (at / 8 - 1) 8;
+          }
+
+    -- ---- the word holds a row, and none above
+
+    module _ {k : ℕ} (found : answer ≡ At k) where
+      top : HighestAt (bit word) left k
+      top = highest-at (bit word) left k (sym searched ∙ found)
+
+      pub bit-below : k < left
+      bit-below = top .below
+
+      row-found : At (at * 8 + k) ≡ highestBelow (chainOf cur) (at * 8 + left)
+      row-found =
+          let back : at * 8 + k - at * 8 ≡ k = omega arith in
+          sym (highest-skip (chainOf cur) (suc (at * 8 + k)) (at * 8 + left) (omega (arith, bit-below))
+          (λ j p q. sym (word-row j (omega arith) q) ∙ top .above (j - at * 8) (omega arith) (omega arith))
+          ∙ highest-held (chainOf cur) (at * 8 + k)
+          (sym (word-row (at * 8 + k) (omega arith) (omega (arith, bit-below))) ∙ ap (bit word) back ∙ top .holds))
+
+      pub scan-row-low : at * 8 + k < 8 * h
+      scan-row-low = row-low (s .settling) row-found refl
+
+      pub scan-row-below : at * 8 + k < rows
+      scan-row-below = omega (arith, bit-below, s .settling .within)
+
+      pub scanning-stop : takenAt taken (at * 8 + k) ≡ false → Settles h work taken rows start (At (at * 8 + k)) cur
+      scanning-stop out = settling-stop (s .settling) row-found refl out
+
+      -- the slot is added to the pair, and its word to the word
+      pub scanning-add : {next : List ℕ} (other : ℕ) → 8 ≤ h → roomOf h ≤ length work → length start ≡ 2 * h
+          → takenAt taken (at * 8 + k) ≡ true
+          → next ≡ xorBytes cur (slot h work (at * 8 + k))
+          → WordAt work ((at * 8 + k) * (2 * h) + at) other
+          → Scanning h work taken rows start next at k (bitXor word other)
+      scanning-add {next} other big room pair full e w = record {
+        settling = settling-add (s .settling) row-found refl full e;
+        read = subst (λ (l : List ℕ). WordAt l at (bitXor word other)) (sym e) (word-sum h work (at * 8 + k) scan-row-low room cur at word other (s .settling .long ∙ pair) (omega (arith, scan-low)) (s .read) w);
+        few = omega (arith, bit-below, s .few);
+        whole = s .whole;
+      }
 
 -- ---- the full reduction, from one row at which it is stuck to the next
 

@@ -10,11 +10,12 @@ use native.Mathlib.Decide.{decLt}
 use lib.Dec.{eqb}
 use lib.ListN.{getD}
 use lib.Pow.{pow-pos, pow-add, pow-lt, shr-shr, high, low, field, mod-mod-pow}
+use borrow.Author.Tests.{ne-eqb}
 use Rattle.columns.specs.Column.{bit, bitAt, chainOf}
 use Rattle.columns.specs.ColumnLaws.{bit-zero}
 use Rattle.columns.specs.Word.{WordAt, HighestBit}
 use Rattle.columns.specs.Search.{highestBelow, highest-held, highest-not-held, highest-skip}
-use Rattle.columns.specs.declared.Highest.the-variants.{At}
+use Rattle.columns.specs.declared.Highest.the-variants.{At, Nothing}
 
 -- ---- bits of a number
 
@@ -138,34 +139,92 @@ halved-all {word} {n} {rest} g l h =
           ap (λ (q : ℕ). eqb (q % 2) 1) gone;
     }
 
--- ---- a word in the search downwards: of the word that holds rank i, the ranks below i
+-- ---- the bits of a word below one of them, as a search cuts them off
 
 -- a one that is shifted by less than 64 places stays in its word
 word-mask : (k : ℕ) → k < 64 → 1 * 2 ^ k % 18446744073709551616 ≡ 2 ^ k
 word-mask k l = ap (λ (x : ℕ). x % 18446744073709551616) (one-mul (2 ^ k)) ∙ mod-eq-of-lt (pow-lt l)
 
--- what the search cuts the word with, and what is left of it
+-- what a search cuts the word with, and what is left of it
+abbrev pub maskBelow : ℕ → ℕ
+maskBelow k = 1 * 2 ^ k % 18446744073709551616
+
+abbrev pub cutBelow : ℕ → ℕ → ℕ
+cutBelow k word = word % maskBelow k
+
+pub mask-below-pos : (k : ℕ) → k < 64 → 0 < maskBelow k
+mask-below-pos k l = subst (λ (x : ℕ). 0 < x) (sym (word-mask k l)) (pow-pos k)
+
+-- nothing is left of bit k and of those above
+cut-below-low : (k word r : ℕ) → k < 64 → HighestBit (cutBelow k word) r → r < k
+cut-below-low k word r few h = elim (decLt r k) [ yes l ↦ l | no l ↦ absurd (not-held (omega arith)) ]
+  where
+    not-held : k ≤ r → ⊥
+    not-held l =
+        let short : cutBelow k word < 2 ^ k = subst (λ (x : ℕ). cutBelow k word < x) (word-mask k few) (mod-lt word (mask-below-pos k few)) in
+        let longer : 2 ^ k ≤ 2 ^ r = pow-le-pow-right {n = 2} (omega arith) {i = k} {j = r} l in
+        false≢true (sym (bit-over (cutBelow k word) r (omega arith)) ∙ h .held)
+
+-- and those below are the word's
+cut-below-bit : (k word j : ℕ) → k < 64 → j < k → bit word j ≡ bit (cutBelow k word) j
+cut-below-bit k word j few l = sym (bit-mod word k j l) ∙ ap (λ (m : ℕ). bit (word % m) j) (sym (word-mask k few))
+
+-- ---- the search in a word alone, downwards from bit `left`
+
+bit-on : (word k : ℕ) → word / 2 ^ k % 2 ≡ 1 → bit word k ≡ true
+unfolding bit
+bit-on word k e = ap (λ (q : ℕ). eqb q 1) e
+
+bit-off : (word k : ℕ) → (word / 2 ^ k % 2 ≡ 1 → ⊥) → bit word k ≡ false
+unfolding bit
+bit-off word k n = ne-eqb (word / 2 ^ k % 2) 1 n
+
+pub none-at-all : (word left : ℕ) → left ≡ 0 → Nothing ≡ highestBelow (bit word) left
+unfolding highestBelow
+none-at-all word left e = sym (ap (highestBelow (bit word)) e)
+
+module _ (word left : ℕ) (few : left ≤ 64) (some : left ≡ 0 → ⊥) where
+  low-last : left - 1 < 64
+  low-last = omega arith
+
+  up : suc (left - 1) ≡ left
+  up = omega arith
+
+  pub last-held : word / 2 ^ (left - 1) % 2 ≡ 1 → At (left - 1) ≡ highestBelow (bit word) left
+  last-held e = sym (ap (highestBelow (bit word)) (sym up) ∙ highest-held (bit word) (left - 1) (bit-on word (left - 1) e))
+
+  module _ (off : word / 2 ^ (left - 1) % 2 ≡ 1 → ⊥) where
+    -- the last bit is passed over
+    passed : highestBelow (bit word) left ≡ highestBelow (bit word) (left - 1)
+    passed = ap (highestBelow (bit word)) (sym up) ∙ highest-not-held (bit word) (left - 1) (bit-off word (left - 1) off)
+
+    pub none-held : cutBelow (left - 1) word ≡ 0 → Nothing ≡ highestBelow (bit word) left
+    none-held z =
+        none-at-all word 0 refl
+        ∙ sym (passed
+        ∙ highest-skip (bit word) 0 (left - 1) (omega arith)
+        (λ j p q. cut-below-bit (left - 1) word j low-last q ∙ ap (λ (x : ℕ). bit x j) z ∙ bit-zero j))
+
+    pub some-held : (r : ℕ) → HighestBit (cutBelow (left - 1) word) r → At r ≡ highestBelow (bit word) left
+    some-held r h =
+        let l : r < left - 1 = cut-below-low (left - 1) word r low-last h in
+        sym (passed
+        ∙ highest-skip (bit word) (suc r) (left - 1) l (λ j p q. cut-below-bit (left - 1) word j low-last q ∙ h .above j p)
+        ∙ highest-held (bit word) r (cut-below-bit (left - 1) word r low-last l ∙ h .held))
+
+-- ---- a word in the search downwards: of the word that holds rank i, the ranks below i
+
 abbrev pub maskAt : ℕ → ℕ
-maskAt i = 1 * 2 ^ (i % 64) % 18446744073709551616
+maskAt i = maskBelow (i % 64)
 
 abbrev pub cutAt : ℕ → ℕ → ℕ
-cutAt i word = word % maskAt i
-
-mask-power : (i : ℕ) → maskAt i ≡ 2 ^ (i % 64)
-mask-power i = word-mask (i % 64) (omega arith)
+cutAt i word = cutBelow (i % 64) word
 
 pub mask-pos : (i : ℕ) → 0 < maskAt i
-mask-pos i = subst (λ (x : ℕ). 0 < x) (sym (mask-power i)) (pow-pos (i % 64))
+mask-pos i = mask-below-pos (i % 64) (omega arith)
 
--- nothing is left of bit i and of those above
 pub cut-low : (i word r : ℕ) → HighestBit (cutAt i word) r → r < i % 64
-cut-low i word r h = elim (decLt r (i % 64)) [ yes l ↦ l | no l ↦ absurd (not-held (omega arith)) ]
-  where
-    not-held : i % 64 ≤ r → ⊥
-    not-held l =
-        let short : cutAt i word < 2 ^ (i % 64) = subst (λ (x : ℕ). cutAt i word < x) (mask-power i) (mod-lt word (mask-pos i)) in
-        let longer : 2 ^ (i % 64) ≤ 2 ^ r = pow-le-pow-right {n = 2} (omega arith) {i = i % 64} {j = r} l in
-        false≢true (sym (bit-over (cutAt i word) r (omega arith)) ∙ h .held)
+cut-low i word r h = cut-below-low (i % 64) word r (omega arith) h
 
 -- and those below are the column's
 cut-bit : (col : List ℕ) (i word j : ℕ) → WordAt col (i / 64 * 8) word → i / 64 * 8 * 8 ≤ j → j < i
@@ -175,8 +234,7 @@ cut-bit col i word j w p q =
     let same : j ≡ 8 * (i / 64 * 8) + k = omega arith in
     ap (bitAt col) same
     ∙ sym (w .holds k (omega arith))
-    ∙ sym (bit-mod word (i % 64) k (omega arith))
-    ∙ ap (λ (m : ℕ). bit (word % m) k) (sym (mask-power i))
+    ∙ cut-below-bit (i % 64) word k (omega arith) (omega arith)
 
 pub none-below : (col : List ℕ) (i word : ℕ) → bitAt col i ≡ false → WordAt col (i / 64 * 8) word → cutAt i word ≡ 0
     → highestBelow (chainOf col) (suc i) ≡ highestBelow (chainOf col) (i / 64 * 8 * 8)

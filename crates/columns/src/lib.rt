@@ -6,7 +6,7 @@ ghost use mathlib.Core.Path.{_≡_};
 ghost use Prim.Native.Nat.{_+_, _*_, _≤_, _<_};
 ghost use mathlib.Core.Bool.{true};
 ghost use lib.ListN.{length, getD, set, take, replicate};
-ghost use Rattle.columns.specs.Column.{bitAt, chainOf, xorBytes, flipped, clearedFront};
+ghost use Rattle.columns.specs.Column.{bit, bitAt, chainOf, xorBytes, flipped, clearedFront};
 ghost use Rattle.columns.specs.Slot.{roomOf, slot, storeSlot};
 ghost use Rattle.columns.specs.Word.{WordAt, HighestBit};
 ghost use Rattle.columns.specs.Search.{highestBelow};
@@ -161,26 +161,61 @@ fn take_slot(taken: &mut [bool], r: usize)
     taken[r] = true;
 }
 
+// The highest bit that a word holds below bit `left`. The bit just below is looked at first, since in a full column it is the
+// answer as often as not.
+fn highest_in(word: u64, left: usize) -> Highest
+    requires { ⌜ left ≤ 64 ⌝ }
+    ensures { λ r. ⌜ r ≡ highestBelow (bit word) left ⌝ }
+{
+    if left == 0 {
+        return Highest::Nothing;
+    }
+    let last = left - 1;
+    if (word >> last) % 2 == 1 {
+        return Highest::At(last);
+    }
+    let below = word % (1u64 << last);
+    if below == 0 {
+        return Highest::Nothing;
+    }
+    Highest::At(highest_bit(below))
+}
+
 // Reduces the pair in hand by the slots, from row `rows` - 1 down, until it holds a row whose slot
-// is not taken, and says which.
+// is not taken, and says which. The eight bytes that hold the next row are kept as one number, `word`, beside the pair and
+// added to as it is: so the search for that row does not wait until the sum is in the memory and read again.
 pub fn settle(cur: &mut [u8], work: &[u8], taken: &[bool], h: usize, rows: usize) -> Highest
     requires { ⌜ rows ≤ 8 * h ⌝ }
     requires { ⌜ roomOf h ≤ length (now work) ⌝ }
     requires { ⌜ length (now cur) ≡ 2 * h ⌝ }
     requires { ⌜ rows ≤ length (now taken) ⌝ }
+    requires { ⌜ 8 ≤ h ⌝ }
     ensures { λ r. ⌜ Settles h (now (work .entry)) (now (taken .entry)) rows (now (cur .entry)) r (now (cur .exit)) ⌝ }
 {
-    let mut left = rows;
+    let mut at = rows / 64 * 8;
+    let mut left = rows % 64;
+    let mut word = word_at(cur, at);
     loop {
-        let found = next_down(cur, left);
-        let Highest::At(r) = found else {
-            return Highest::Nothing;
-        };
-        if taken[r] {
-            add_slot(cur, work, h, r);
-            left = r;
-        } else {
-            return Highest::At(r);
+        let found = highest_in(word, left);
+        match found {
+            Highest::Nothing => {
+                if at == 0 {
+                    return Highest::Nothing;
+                }
+                at -= 8;
+                left = 64;
+                word = word_at(cur, at);
+            }
+            Highest::At(bit) => {
+                let r = at * 8 + bit;
+                if taken[r] {
+                    add_slot(cur, work, h, r);
+                    word = word ^ word_at(work, r * (2 * h) + at);
+                    left = bit;
+                } else {
+                    return Highest::At(r);
+                }
+            }
         }
     }
 }
@@ -192,6 +227,7 @@ pub fn insert(work: &mut [u8], cur: &mut [u8], taken: &mut [bool], h: usize, row
     requires { ⌜ roomOf h ≤ length (now work) ⌝ }
     requires { ⌜ length (now cur) ≡ 2 * h ⌝ }
     requires { ⌜ rows ≤ length (now taken) ⌝ }
+    requires { ⌜ 8 ≤ h ⌝ }
     ensures { λ r. ⌜ Inserts h (now (work .entry)) (now (taken .entry)) rows (now (cur .entry)) r (now (cur .exit)) (now (work .exit)) (now (taken .exit)) ⌝ }
 {
     let found = settle(cur, work, taken, h, rows);
@@ -208,6 +244,7 @@ pub fn reduce(cur: &mut [u8], work: &[u8], taken: &[bool], h: usize, rows: usize
     requires { ⌜ roomOf h ≤ length (now work) ⌝ }
     requires { ⌜ length (now cur) ≡ 2 * h ⌝ }
     requires { ⌜ rows ≤ length (now taken) ⌝ }
+    requires { ⌜ 8 ≤ h ⌝ }
     ensures { λ _. ⌜ now (cur .exit) ≡ redBytes h (now (work .entry)) (now (taken .entry)) rows (now (cur .entry)) ⌝ }
 {
     let mut left = rows;

@@ -19,6 +19,7 @@ pub fn insert_column(work: &mut [u8], cur: &mut [u8], taken: &mut [bool], h: usi
     requires { ⌜ roomOf h ≤ length (now work) ⌝ }
     requires { ⌜ length (now cur) ≡ 2 * h ⌝ }
     requires { ⌜ top ≤ length (now taken) ⌝ }
+    requires { ⌜ 8 ≤ h ⌝ }
     ensures { λ _. ⌜ ((m : ℕ) → top ≤ m → m ≤ 8 * h → Under top (chainR h (now (cur .entry))) → PutsIn h m (now (work .entry)) (now (taken .entry)) (now (cur .entry)) (now (work .exit)) (now (taken .exit))) ⌝ }
 {
     insert(work, cur, taken, h, top);
@@ -36,6 +37,7 @@ pub fn fill_in(cur: &mut [u8], work: &[u8], taken: &[bool], h: usize, rows: usiz
     requires { ⌜ roomOf h ≤ length (now work) ⌝ }
     requires { ⌜ length (now cur) ≡ 2 * h ⌝ }
     requires { ⌜ rows ≤ length (now taken) ⌝ }
+    requires { ⌜ 8 ≤ h ⌝ }
     ensures { λ r. ⌜ FillsIn h rows (now (work .entry)) (now (taken .entry)) (now (cur .entry)) r (now (cur .exit)) ⌝ }
 {
     let found = settle(cur, work, taken, h, rows);
@@ -51,6 +53,7 @@ pub fn class_in(cur: &mut [u8], work: &[u8], taken: &[bool], h: usize, rows: usi
     requires { ⌜ roomOf h ≤ length (now work) ⌝ }
     requires { ⌜ length (now cur) ≡ 2 * h ⌝ }
     requires { ⌜ rows ≤ length (now taken) ⌝ }
+    requires { ⌜ 8 ≤ h ⌝ }
     ensures { λ _. ⌜ ClassesIn h rows (now (work .entry)) (now (taken .entry)) (now (cur .entry)) (now (cur .exit)) ⌝ }
 {
     reduce(cur, work, taken, h, rows);

@@ -103,6 +103,7 @@ fn put_column(
     requires { ⌜ m ≤ length (now taken) ⌝ }
     requires { ⌜ roomOf h ≤ length (now work) ⌝ }
     requires { ⌜ length (now cur) ≡ 2 * h ⌝ }
+    requires { ⌜ 8 ≤ h ⌝ }
     ensures { λ _. ⌜ ((k : MatrixIn h size m (now (sides .entry)) n) → PutsNext h (k .rows) (k .high) rank (now (work .entry)) (now (taken .entry)) (now (work .exit)) (now (taken .exit))) ⌝ }
 {
     let top = highest_side(sides[rank], size);
@@ -137,6 +138,7 @@ pub fn load(
     requires { ⌜ roomOf h ≤ length (now work) ⌝ }
     requires { ⌜ length (now cur) ≡ 2 * h ⌝ }
     requires { ⌜ now taken ≡ replicate 512 false ⌝ }
+    requires { ⌜ 8 ≤ h ⌝ }
     ensures { λ _. ⌜ ((k : MatrixIn h size m (now (sides .entry)) n) → Loads h (k .rows) (k .high) m (now (work .exit)) (now (taken .exit))) ⌝ }
 {
     let mut i = 0;
@@ -210,6 +212,7 @@ fn prepare(
     requires { ⌜ roomOf h ≤ length (now work) ⌝ }
     requires { ⌜ length (now cur) ≡ 2 * h ⌝ }
     requires { ⌜ now taken ≡ replicate 512 false ⌝ }
+    requires { ⌜ 8 ≤ h ⌝ }
     ensures { λ _. ⌜ ((k : MatrixIn h size m (now (sides .entry)) n) → Prepared h (k .rows) (k .high) marks m (now (work .exit)) (now (taken .exit)) (now (cur .exit))) ⌝ }
 {
     load(work, cur, taken, m, sides, n, size, h);
@@ -232,6 +235,7 @@ pub fn fill(
     requires { ⌜ m ≤ 512 ⌝ }
     requires { ⌜ roomOf h ≤ length (now work) ⌝ }
     requires { ⌜ length (now cur) ≡ 2 * h ⌝ }
+    requires { ⌜ 8 ≤ h ⌝ }
     ensures { λ r. ⌜ ((k : MatrixIn h size m (now (sides .entry)) n) → FillTold (k .rows) (k .high) marks r (chainV h (now (cur .exit)))) ⌝ }
 {
     let mut taken = NO_SLOTS;
@@ -254,6 +258,7 @@ pub fn class(
     requires { ⌜ m ≤ 512 ⌝ }
     requires { ⌜ roomOf h ≤ length (now work) ⌝ }
     requires { ⌜ length (now cur) ≡ 2 * h ⌝ }
+    requires { ⌜ 8 ≤ h ⌝ }
     ensures { λ _. ⌜ ((k : MatrixIn h size m (now (sides .entry)) n) → ClassTold (k .rows) (k .high) marks (chainR h (now (cur .exit)))) ⌝ }
 {
     let mut taken = NO_SLOTS;

@@ -83,7 +83,7 @@ class-requires : tie.Need-class-requires
 class-requires c κs =
     let chosen = c .before .before in (
       matrix-in (start chosen .pre .0 .held) (start chosen .args .dim) _ _ (chosen .numbers-of .ensures) (small-dim (start chosen)) (m-is chosen) (n-is chosen),
-      (few chosen, (omega (arith, room-small, start chosen .pre .1 .1 .1 .1), refl)),
+      (few chosen, (omega (arith, room-small, start chosen .pre .1 .1 .1 .1), (refl, omega arith))),
     )
 
 slice-aggregate-number-vertices : tie.Need-slice-aggregate-number-vertices

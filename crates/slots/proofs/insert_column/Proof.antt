@@ -21,7 +21,7 @@ returns : tie.Need-returns
 returns c = λ m le low held.
     let done = c .before .before .before .before .before .before in
     let start = done .before .before .before .before .before .before .before in
-    puts-in low (start .pre .1 .0) (start .pre .1 .1 .0) (start .pre .1 .1 .1) le held (done .insert .ensures)
+    puts-in low (start .pre .1 .0) (start .pre .1 .1 .0) (start .pre .1 .1 .1 .0) le held (done .insert .ensures)
 
 pub insert-column-spec : {M : Type 1} → statement M
 insert-column-spec = tie.close (tie.spec insert-requires same-length same-length-2 same-length-3 returns)

@@ -12,7 +12,7 @@ slice-aggregate-prepare c = search needs
 prepare-requires : tie.Need-prepare-requires
 prepare-requires c κs =
     let known = c .before .before .before .before .before .before .pre in
-    (known .0, (known .1 .0, (known .1 .1 .0, (known .1 .1 .1, refl))))
+    (known .0, (known .1 .0, (known .1 .1 .0, (known .1 .1 .1 .0, (refl, known .1 .1 .1 .1)))))
 
 slice-aggregate-fill-in : tie.Need-slice-aggregate-fill-in
 slice-aggregate-fill-in c = search needs

@@ -22,7 +22,7 @@ abbrev μ-loop : tie.MeasureT-loop
 loop-holds : tie.Need-loop-holds Inv-loop μ-loop
 loop-holds c = λ k.
     let start = c .before .before .before .before in
-    loading-start (start .pre .1 .1 .1 .1) (start .pre .1 .1 .1 .0)
+    loading-start (start .pre .1 .1 .1 .1 .0) (start .pre .1 .1 .1 .0)
 
 -- what was known before the loop
 module _ (p : tie.At-loop Inv-loop μ-loop) where
@@ -39,7 +39,7 @@ module _ (p : tie.At-loop Inv-loop μ-loop) where
   -- every row has its place in the array of the slots that are taken
   all-rows : begin .args .m ≤ length (p .loop .taken)
   all-rows =
-      let long : length (begin .args .taken .now) ≡ 512 = ap length (begin .pre .1 .1 .1 .1) ∙ length-replicate 512 false in
+      let long : length (begin .args .taken .now) ≡ 512 = ap length (begin .pre .1 .1 .1 .1 .0) ∙ length-replicate 512 false in
       omega (arith, begin .pre .1 .0, as-wide, long)
 
 add-i : tie.Need-add-i Inv-loop μ-loop
@@ -56,7 +56,7 @@ put-column-requires c κs =
           all-rows (turn .before),
           (
             subst (λ n. roomOf (start .args .h) ≤ n) (sym (same-lengths (turn .before) .0)) (start .pre .1 .1 .0),
-            same-lengths (turn .before) .1,
+            (same-lengths (turn .before) .1, start .pre .1 .1 .1 .1 .1),
           ),
         ),
       ),

@@ -103,7 +103,7 @@ insert-column-requires c κs =
       omega (arith, row-low found),
       (
         start .pre .1 .1 .1 .0,
-        (written .write-column .kept .0 ∙ start .pre .1 .1 .1 .1, omega (arith, row-listed found)),
+        (written .write-column .kept .0 ∙ start .pre .1 .1 .1 .1 .0, (omega (arith, row-listed found), start .pre .1 .1 .1 .1 .1)),
       ),
     )
 
@@ -158,7 +158,7 @@ returns c = λ k.
     let found = written .before .before .before .before .before in
     let start = begin found in
     next-inserted (k .rows) (k .high) (omega (arith, start .pre .1 .0, k .count)) (k .few-rows)
-    (holds-column found k (written .write-column .ensures) (start .pre .1 .1 .1 .1)) (highest found k) (put .insert-column .ensures)
+    (holds-column found k (written .write-column .ensures) (start .pre .1 .1 .1 .1 .0)) (highest found k) (put .insert-column .ensures)
 
 same-length-4 : tie.Need-same-length-4
 same-length-4 c = search needs
