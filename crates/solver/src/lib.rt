@@ -13,7 +13,7 @@ ghost use Rattle.columns.specs.Slot.{roomOf, chainR, chainV};
 ghost use Rattle.format.specs.Simplex.{Simplex, risingFrom};
 ghost use Rattle.lookup.specs.Sides.{Sides};
 ghost use Rattle.solver.specs.Columns.{MatrixIn, AddsBoundary, HighestSide, WritesColumn, PutsNext, Loads, Marked};
-ghost use Rattle.solver.specs.Solved.{RimTold, Prepared, FillTold, ClassTold};
+ghost use Rattle.solver.specs.Solved.{RimTold, FillTold, ClassTold};
 use columns::Highest;
 use columns::clear;
 use columns::flip;
@@ -195,30 +195,6 @@ pub fn rim_closed(
     }
 }
 
-// Puts all columns into the slots and takes the marked chain of rows in hand.
-fn prepare(
-    work: &mut [u8],
-    cur: &mut [u8],
-    taken: &mut [bool],
-    m: usize,
-    sides: &[u64],
-    n: usize,
-    size: usize,
-    marks: Marks,
-    h: usize,
-)
-    requires { ⌜ MatrixIn h size m (now sides) n ⌝ }
-    requires { ⌜ m ≤ 512 ⌝ }
-    requires { ⌜ roomOf h ≤ length (now work) ⌝ }
-    requires { ⌜ length (now cur) ≡ 2 * h ⌝ }
-    requires { ⌜ now taken ≡ replicate 512 false ⌝ }
-    requires { ⌜ 8 ≤ h ⌝ }
-    ensures { λ _. ⌜ ((k : MatrixIn h size m (now (sides .entry)) n) → Prepared h (k .rows) (k .high) marks m (now (work .exit)) (now (taken .exit)) (now (cur .exit))) ⌝ }
-{
-    load(work, cur, taken, m, sides, n, size, h);
-    mark(cur, marks, m);
-}
-
 // Fills the marked chain of rows by columns, the smallest way: where it answers `Found`, the filling is
 // the second half of `cur`.
 pub fn fill(
@@ -239,7 +215,8 @@ pub fn fill(
     ensures { λ r. ⌜ ((k : MatrixIn h size m (now (sides .entry)) n) → FillTold (k .rows) (k .high) marks r (chainV h (now (cur .exit)))) ⌝ }
 {
     let mut taken = NO_SLOTS;
-    prepare(work, cur, &mut taken, m, sides, n, size, marks, h);
+    load(work, cur, &mut taken, m, sides, n, size, h);
+    mark(cur, marks, m);
     fill_in(cur, work, &taken, h, m)
 }
 
@@ -262,6 +239,7 @@ pub fn class(
     ensures { λ _. ⌜ ((k : MatrixIn h size m (now (sides .entry)) n) → ClassTold (k .rows) (k .high) marks (chainR h (now (cur .exit)))) ⌝ }
 {
     let mut taken = NO_SLOTS;
-    prepare(work, cur, &mut taken, m, sides, n, size, marks, h);
+    load(work, cur, &mut taken, m, sides, n, size, h);
+    mark(cur, marks, m);
     class_in(cur, work, &taken, h, m);
 }
