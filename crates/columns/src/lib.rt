@@ -26,14 +26,13 @@ pub fn test(col: &[u8], i: usize) -> bool
     (byte_at(col, i / 8) >> (i % 8)) % 2 == 1
 }
 
-// Turns rank i over: puts it in, or takes it out. Past the end nothing changes.
+// Turns rank i over: puts it in, or takes it out.
 pub fn flip(col: &mut [u8], i: usize)
+    requires { ⌜ i < 8 * length (now col) ⌝ }
     ensures { λ _. ⌜ now (col .exit) ≡ flipped (now (col .entry)) i ⌝ }
 {
     let at = i / 8;
-    if at < col.len() {
-        col[at] = col[at] ^ (1u8 << (i % 8));
-    }
+    col[at] = col[at] ^ (1u8 << (i % 8));
 }
 
 // Adds the first n bytes of src to dst.

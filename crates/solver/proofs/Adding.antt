@@ -16,7 +16,7 @@ use Rattle.columns.specs.Slot.{chainR, chainV}
 use Rattle.columns.specs.PairLaws.{flipped-R, flipped-R-keeps}
 use Rattle.lookup.specs.Sides.{Sides}
 use Rattle.lookup.specs.SidesLaws.{sides-last}
-use Rattle.solver.specs.Columns.{MatrixIn, AddsBoundary}
+use Rattle.solver.specs.Columns.{MatrixIn, SidesWithin, AddsBoundary}
 use Rattle.solver.proofs.Facets.{leftOver, all-left, none-left, last-left}
 
 -- EACH COLUMN of a matrix has its sides, so what is said of all simplices with these sides is said of it.
@@ -24,6 +24,18 @@ pub column-sides : {h size m n i : ℕ} {sides : List ℕ} (k : MatrixIn h size 
     → Sides (k .rows) (getD (k .high) i []) size (getD sides i 0)
 column-sides {i = i} {sides = sides} k lt =
     subst (λ (w : ℕ). Sides (k .rows) (getD (k .high) i []) w (getD sides i 0)) (k .wide i lt) (k .sided .own i lt)
+
+-- and they lie within every column that has room for all rows
+pub column-within : {h size m n i room : ℕ} {sides : List ℕ} (k : MatrixIn h size m sides n) → i < n → 8 * h ≤ room
+    → SidesWithin room size (getD sides i 0)
+column-within {i = i} k lt fits = record {
+  rows = k .rows;
+  simplex = getD (k .high) i [];
+  sized = k .wide i lt;
+  some = k .some;
+  sided = column-sides k lt;
+  few = omega (arith, k .few-rows);
+}
 
 pub record Adding (rows : List Simplex) (s : Simplex) (start cur : List ℕ) (left sides : ℕ) : Type 0 where
   pub long : length cur ≡ length start
@@ -54,7 +66,7 @@ module _ {rows : List Simplex} {s : Simplex} {start cur : List ℕ} {left sides 
   -- One facet, whose rank is the lowest digit of the sides: what stands in hand after it is the chain before it with that
   -- rank turned over.
   module _ (some : 0 < left) where
-    rank-below : sides % 65536 < length rows
+    pub rank-below : sides % 65536 < length rows
     rank-below = rank-stands (without (left - 1) s) rows (sides % 65536) (sides-last (a .sided) some .0) .below
 
     pub adding-on : {after : List ℕ} → after ≡ flipped cur (sides % 65536) → Adding rows s start after (left - 1) (sides / 65536)

@@ -7,7 +7,7 @@ use mathlib.Core.List.{List, []}
 use lib.ListN.{length, getD, take}
 use Rattle.chains.specs.Chain.{Chain, _⊕_, empty, unit, Top}
 use Rattle.format.specs.Simplex.{Simplex, risingFrom, simplexBoundary, columns}
-use Rattle.lookup.specs.Sides.{Sided}
+use Rattle.lookup.specs.Sides.{Sides, Sided}
 use Rattle.columns.specs.Slot.{chainR, chainV}
 use Rattle.slots.specs.Slots.{SlotsIn}
 use Rattle.lists.specs.declared.Marks.{Marks}
@@ -26,6 +26,15 @@ pub record MatrixIn (h size m : ℕ) (sides : List ℕ) (n : ℕ) : Type 0 where
   pub few-rows : length rows ≤ 8 * h
   pub few-columns : length high ≤ 8 * h
   pub room : n ≤ length sides
+
+-- the sides are those of a simplex of `size` vertices, and its facets are among n rows at most
+pub record SidesWithin (n size sides : ℕ) : Type 0 where
+  pub rows : List Simplex
+  pub simplex : Simplex
+  pub sized : length simplex ≡ size
+  pub some : 0 < size
+  pub sided : Sides rows simplex size sides
+  pub few : length rows ≤ n
 
 -- the boundary of s was added to the first half of the pair in hand
 pub record AddsBoundary (rows : List Simplex) (s : Simplex) (cur left : List ℕ) : Type 0 where

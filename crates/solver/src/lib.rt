@@ -12,7 +12,7 @@ ghost use lib.ListN.{length, replicate};
 ghost use Rattle.columns.specs.Slot.{roomOf, chainR, chainV};
 ghost use Rattle.format.specs.Simplex.{Simplex, risingFrom};
 ghost use Rattle.lookup.specs.Sides.{Sides};
-ghost use Rattle.solver.specs.Columns.{MatrixIn, AddsBoundary, HighestSide, WritesColumn, PutsNext, Loads, Marked};
+ghost use Rattle.solver.specs.Columns.{MatrixIn, SidesWithin, AddsBoundary, HighestSide, WritesColumn, PutsNext, Loads, Marked};
 ghost use Rattle.solver.specs.Solved.{RimTold, FillTold, ClassTold};
 use columns::Highest;
 use columns::clear;
@@ -28,6 +28,7 @@ use slots::insert_column;
 // Adds the boundary of the simplex of `size` vertices that has these sides to the chain of rows in hand. A simplex
 // has four vertices at most, so its facets are taken off one after the other, which costs less than a loop over `size`.
 pub fn add_boundary(cur: &mut [u8], sides: u64, size: usize)
+    requires { ⌜ SidesWithin (8 * length (now cur)) size sides ⌝ }
     ensures { λ _. ⌜ ((rows : List Simplex) (s : Simplex) → length s ≡ size → 0 < size → size ≤ 4 → Sides rows s size sides → AddsBoundary rows s (now (cur .entry)) (now (cur .exit))) ⌝ }
 {
     flip(cur, (sides % 65536) as usize);
@@ -78,6 +79,8 @@ fn highest_side(sides: u64, size: usize) -> usize
 
 // Writes the column of a simplex over a pair of columns: its boundary, and its rank alone, the bit `own` of the pair.
 fn write_column(col: &mut [u8], sides: u64, size: usize, own: usize)
+    requires { ⌜ SidesWithin (8 * length (now col)) size sides ⌝ }
+    requires { ⌜ own < 8 * length (now col) ⌝ }
     ensures { λ _. ⌜ ((rows : List Simplex) (s : Simplex) → length s ≡ size → 0 < size → size ≤ 4 → Sides rows s size sides → WritesColumn rows s own (now (col .entry)) (now (col .exit))) ⌝ }
 {
     clear(col);
@@ -152,6 +155,7 @@ pub fn load(
 // Takes the marked ranks, of the first m, as the chain of rows in hand.
 pub fn mark(cur: &mut [u8], marks: Marks, m: usize)
     requires { ⌜ m ≤ 512 ⌝ }
+    requires { ⌜ m ≤ 8 * length (now cur) ⌝ }
     ensures { λ _. ⌜ Marked m marks (now (cur .entry)) (now (cur .exit)) ⌝ }
 {
     clear(cur);

@@ -1,10 +1,8 @@
--- `flip` turns bit i over: inside the column it stores the byte's sum with the one-bit mask; past the end a store
--- would change nothing.
+-- `flip` turns bit i over: it stores the byte's sum with the one-bit mask.
 -- Assumes nothing.
-use Prim.Native.Nat.{_/_, _%_}
-use mathlib.Core.Path.{refl, sym}
+use Prim.Native.Nat.{_%_}
+use mathlib.Core.Path.{refl}
 use native.Mathlib.Omega.{arith}
-use lib.Seq.{set-out}
 use Rattle.columns.proofs.Laws.{mask}
 use borrow.Author.Needs.{needs}
 use Rattle.columns.specs.Column.{flipped}
@@ -28,13 +26,9 @@ same-length c = search needs
 
 returns : tie.Need-returns
 unfolding flipped
-returns c = rw (mask (c .before .before .args .i % 8) (omega arith)) refl
-
-returns-2 : tie.Need-returns-2
-unfolding flipped
-returns-2 c = sym (set-out (c .before .args .col .now) (c .before .args .i / 8) _ (c .if1 .left))
+returns c = rw (mask (c .before .args .i % 8) (omega arith)) refl
 
 pub flip-spec : {M : Type 1} → statement M
 flip-spec =
     tie.close
-    (tie.spec slice-read-col cast-col shl-col slice-write-col same-length returns returns-2)
+    (tie.spec slice-read-col cast-col shl-col slice-write-col same-length returns)

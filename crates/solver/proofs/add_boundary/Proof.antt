@@ -8,7 +8,7 @@ use mathlib.Core.List.{List}
 use lib.ListN.{length}
 use Rattle.format.specs.Simplex.{Simplex}
 use Rattle.lookup.specs.Sides.{Sides}
-use Rattle.solver.proofs.Adding.{Adding, adding-start, adding-on, adding-end}
+use Rattle.solver.proofs.Adding.{Adding, adding-start, rank-below, adding-on, adding-end}
 use borrow.Author.Needs.{needs}
 use Rattle.solver.proofs.add_boundary.Statement.{statement}
 use Rattle.solver.proofs.add_boundary.Tie as tie
@@ -49,7 +49,11 @@ module _ (p : tie.After-flip3) where
       adding-on (two second rows s sized some sided) (omega (arith, p .before .before .if2 .left)) (p .flip3 .ensures)
 
 flip-requires : tie.Need-flip-requires
-flip-requires c κs = search needs
+flip-requires c κs =
+    let start = c .before .before in
+    let w = start .pre in
+    let a = adding-start (w .rows) (w .simplex) (start .args .cur .now) (start .args .size) (start .args .sides) (w .sized) (w .sided) in
+    omega (arith, rank-below a (w .some), w .few)
 
 same-length : tie.Need-same-length
 same-length c = search needs
@@ -59,7 +63,11 @@ returns c = λ rows s sized some most sided.
     adding-end (one (c .before .before .before) rows s sized some sided) (omega (arith, c .if1 .taken))
 
 flip-requires-2 : tie.Need-flip-requires-2
-flip-requires-2 c κs = search needs
+flip-requires-2 c κs =
+    let before = c .before .before .before .before in
+    let w = begin before .pre in
+    let a = one before (w .rows) (w .simplex) (w .sized) (w .some) (w .sided) in
+    omega (arith, rank-below a (omega (arith, c .before .if1 .left)), w .few, a .long)
 
 same-length-2 : tie.Need-same-length-2
 same-length-2 c = search needs
@@ -69,7 +77,11 @@ returns-2 c = λ rows s sized some most sided.
     adding-end (two (c .before .before .before) rows s sized some sided) (omega (arith, c .if2 .taken))
 
 flip-requires-3 : tie.Need-flip-requires-3
-flip-requires-3 c κs = search needs
+flip-requires-3 c κs =
+    let before = c .before .before .before .before in
+    let w = begin2 before .pre in
+    let a = two before (w .rows) (w .simplex) (w .sized) (w .some) (w .sided) in
+    omega (arith, rank-below a (omega (arith, c .before .if2 .left)), w .few, a .long)
 
 same-length-3 : tie.Need-same-length-3
 same-length-3 c = search needs
@@ -79,7 +91,11 @@ returns-3 c = λ rows s sized some most sided.
     adding-end (three (c .before .before .before) rows s sized some sided) (omega (arith, c .if3 .taken))
 
 flip-requires-4 : tie.Need-flip-requires-4
-flip-requires-4 c κs = search needs
+flip-requires-4 c κs =
+    let before = c .before .before .before .before in
+    let w = begin3 before .pre in
+    let a = three before (w .rows) (w .simplex) (w .sized) (w .some) (w .sided) in
+    omega (arith, rank-below a (omega (arith, c .before .if3 .left)), w .few, a .long)
 
 same-length-4 : tie.Need-same-length-4
 same-length-4 c = search needs

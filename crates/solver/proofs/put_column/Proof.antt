@@ -3,13 +3,13 @@
 use Prim.Native.Nat.{ℕ, _+_, _-_, _*_, _^_, _≤_, _<_}
 use mathlib.Core.Path.{_≡_, refl, _∙_}
 use mathlib.Core.List.{List, []}
-use lib.ListN.{length, getD}
+use lib.ListN.{length, getD, take, drop}
 use native.Mathlib.Omega.{arith}
 use Rattle.format.specs.Simplex.{Simplex}
 use Rattle.columns.specs.SlotLaws.{slot-fits}
 use Rattle.lookup.specs.Sides.{Sides}
-use Rattle.solver.specs.Columns.{MatrixIn, HighestSide, HoldsColumn, WritesColumn}
-use Rattle.solver.proofs.Adding.{column-sides}
+use Rattle.solver.specs.Columns.{MatrixIn, SidesWithin, HighestSide, HoldsColumn, WritesColumn}
+use Rattle.solver.proofs.Adding.{column-sides, column-within}
 use Rattle.solver.proofs.Loading.{length-part, part-stored, next-inserted, next-written, halves-fit}
 use borrow.Author.Needs.{needs}
 use Rattle.solver.proofs.put_column.Statement.{statement}
@@ -59,6 +59,24 @@ module _ (p : tie.After-highest-side) where
       let lt = begin .pre .1 .0 in
       written (k .rows) _ (k .wide _ lt) (k .some) (k .most) (column-sides k lt) .column _ _ whole (k .few-rows) in-half refl
 
+  -- a pair of columns has room for its boundary
+  fits-pair : {bytes : ℕ} → bytes ≡ 2 * begin .args .h
+      → SidesWithin (8 * bytes) (begin .args .size) (getD (begin .args .sides .now) (begin .args .rank) 0)
+  fits-pair whole = column-within (begin .pre .0) (begin .pre .1 .0) (omega (arith, whole))
+
+  -- the part of the memory that is the slot of that row is a whole pair
+  abbrev slot-size : ℕ
+  slot-size =
+      p .highest-side .result * (2 * begin .args .h) + 2 * begin .args .h - p .highest-side .result * (2 * begin .args .h)
+
+  same-size : slot-size ≡ 2 * begin .args .h
+  same-size = omega arith
+
+  part-whole : length (take slot-size (drop (p .highest-side .result * (2 * begin .args .h)) (begin .args .work .now)))
+      ≡ 2 * begin .args .h
+  part-whole =
+      length-part (begin .args .h) (begin .args .work .now) (p .highest-side .result) _ same-size row-low (begin .pre .1 .1 .1 .0)
+
 mul-highest-side : tie.Need-mul-highest-side
 mul-highest-side c = search needs
 
@@ -88,7 +106,10 @@ shared-slice-read-write-column c =
     omega (arith, start .pre .1 .0, start .pre .0 .room)
 
 write-column-requires : tie.Need-write-column-requires
-write-column-requires c κs = search needs
+write-column-requires c κs =
+    let found = c .before .before .before .before in
+    let whole = begin found .pre .1 .1 .1 .1 .0 in
+    (fits-pair found whole, omega (arith, whole, in-half found))
 
 add-insert-column : tie.Need-add-insert-column
 add-insert-column c =
@@ -137,7 +158,9 @@ shared-slice-read-write-column-2 c =
     omega (arith, start .pre .1 .0, start .pre .0 .room)
 
 write-column-requires-2 : tie.Need-write-column-requires-2
-write-column-requires-2 c κs = search needs
+write-column-requires-2 c κs =
+    let found = c .before .before .before .before in
+    (fits-pair found (part-whole found), omega (arith, part-whole found, in-half found))
 
 slice-write-taken : tie.Need-slice-write-taken
 slice-write-taken c = row-listed (c .before .before .before .before .before .before .before)
@@ -173,12 +196,10 @@ returns-2 c = λ k.
     let start = begin found in
     let room = start .pre .1 .1 .1 .0 in
     let r = found .highest-side .result in
-    let size : r * (2 * start .args .h) + 2 * start .args .h - r * (2 * start .args .h) ≡ 2 * start .args .h = omega arith in
-    let part = length-part (start .args .h) (start .args .work .now) r _ size (row-low found) room in
-    let whole = written .write-column2 .kept .0 ∙ part in
+    let whole = written .write-column2 .kept .0 ∙ part-whole found in
     next-written (k .rows) (k .high) (omega (arith, start .pre .1 .0, k .count)) (k .few-rows)
-    (holds-column found k (written .write-column2 .ensures) part) (highest found k) room whole (row-listed found) (written .before .before .before .if1 .left)
-    (part-stored (start .args .h) (start .args .work .now) r _ size (written .write-column2 .last .0) whole)
+    (holds-column found k (written .write-column2 .ensures) (part-whole found)) (highest found k) room whole (row-listed found) (written .before .before .before .if1 .left)
+    (part-stored (start .args .h) (start .args .work .now) r _ (same-size found) (written .write-column2 .last .0) whole)
 
 pub put-column-spec : {M : Type 1} → statement M
 put-column-spec =

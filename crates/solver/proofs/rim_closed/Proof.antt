@@ -6,7 +6,7 @@ use mathlib.Core.Logic.{⊎-elim}
 use native.Mathlib.Omega.{arith}
 use lib.ListN.{length}
 use Rattle.solver.specs.Columns.{MatrixIn}
-use Rattle.solver.proofs.Adding.{column-sides}
+use Rattle.solver.proofs.Adding.{column-sides, column-within}
 use Rattle.solver.proofs.Rimming.{Rimming, rimming-start, rimming-skip, rimming-add, rim-empty, rim-open}
 use borrow.Author.Needs.{needs}
 use Rattle.solver.proofs.rim_closed.Statement.{statement}
@@ -52,7 +52,10 @@ shared-slice-read-add-boundary c =
     omega (arith, turn .loop-test .taken, begin (turn .before) .pre .0 .room)
 
 add-boundary-requires : tie.Need-add-boundary-requires Inv-loop μ-loop
-add-boundary-requires c κs = search needs
+add-boundary-requires c κs =
+    let turn = c .before .before .before .before in
+    let start = begin (turn .before) in
+    column-within (start .pre .0) (turn .loop-test .taken) (omega (arith, whole (turn .before), start .pre .1 .1))
 
 add-i : tie.Need-add-i Inv-loop μ-loop
 add-i c = search needs

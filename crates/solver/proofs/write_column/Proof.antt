@@ -1,5 +1,8 @@
 -- `write_column` clears the pair, adds the boundary and turns the bit of the rank over.
 -- Assumes nothing.
+use Prim.Native.Nat.{ℕ, _*_}
+use mathlib.Core.Path.{sym, subst}
+use Rattle.solver.specs.Columns.{SidesWithin}
 use Rattle.solver.proofs.Loading.{column-written}
 use borrow.Author.Needs.{needs}
 use Rattle.solver.proofs.write_column.Statement.{statement}
@@ -9,7 +12,10 @@ clear-requires : tie.Need-clear-requires
 clear-requires c κs = search needs
 
 add-boundary-requires : tie.Need-add-boundary-requires
-add-boundary-requires c κs = search needs
+add-boundary-requires c κs =
+    let cleared = c .before .before .before in
+    let start = cleared .before .before .before in
+    subst (λ (n : ℕ). SidesWithin (8 * n) (start .args .size) (start .args .sides)) (sym (cleared .clear .kept .0)) (start .pre .0)
 
 flip-requires : tie.Need-flip-requires
 flip-requires c κs = search needs
