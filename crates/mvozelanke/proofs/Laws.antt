@@ -44,8 +44,8 @@ module _ {b : List ℕ} {at : ℕ} {s : Sizes} (told : SizesTold b at s) (none :
     tetrahedron-sides = omega arith;
   }
 
-  pub few-room : s .edges ≤ 256 → s .triangles ≤ 384
-      → FileRoom b at (replicate 128 0) (replicate 128 0) (replicate 0 0) (replicate 128 0) (replicate 0 0)
+  pub few-room : s .edges ≤ 512 → s .triangles ≤ 384
+      → FileRoom b at (replicate 256 0) (replicate 128 0) (replicate 0 0) (replicate 128 0) (replicate 0 0)
   few-room edges triangles = record {
     edges = λ fits. omega (arith, told .edges);
     triangles = λ fits. omega (arith, told .triangles);

@@ -12,17 +12,20 @@ ghost use Rattle.format.specs.Promise.{AnswerPromise, WritePromise};
 ghost use Rattle.jobs.specs.Meaning.{FileRoom};
 ghost use Rattle.answering.specs.Meaning.{AnswersFile};
 
-// So many places are lent for each list of a small job: a quarter of a list's limit.
+// So many places are lent for the triangles of a small job, a quarter of a list's limit, and twice as many for its edges, of which
+// a surface has half as many again as triangles.
 const FEW: usize = 128;
+
+const FEW_EDGES: usize = 256;
 
 // Answers a small job without tetrahedra.
 fn answer_few(job: &[u8], out: &mut [u8], work: &mut [u8]) -> usize
-    requires { ⌜ FileRoom (now job) 10 (replicate 128 0) (replicate 128 0) (replicate 0 0) (replicate 128 0) (replicate 0 0) ⌝ }
+    requires { ⌜ FileRoom (now job) 10 (replicate 256 0) (replicate 128 0) (replicate 0 0) (replicate 128 0) (replicate 0 0) ⌝ }
     requires { ⌜ 2055 ≤ length (now out) ⌝ }
     requires { ⌜ 65536 ≤ length (now work) ⌝ }
     ensures { λ r. ⌜ AnswersFile (now (job .entry)) (now (out .entry)) (now (out .exit)) r ⌝ }
 {
-    let mut e_keys = [0u64; FEW];
+    let mut e_keys = [0u64; FEW_EDGES];
     let mut t_keys = [0u64; FEW];
     let mut s_keys = [0u64; 0];
     let mut t_sides = [0u64; FEW];
@@ -87,7 +90,7 @@ fn answer_file(job: &[u8], out: &mut [u8], work: &mut [u8]) -> usize
     if 0 < sizes.tetrahedra {
         return answer_many(job, out, work, false);
     }
-    if 2 * FEW < sizes.edges {
+    if 2 * FEW_EDGES < sizes.edges {
         return answer_many(job, out, work, true);
     }
     if 3 * FEW < sizes.triangles {
