@@ -2,7 +2,7 @@
 use lists::Simplex;
 use records::Header;
 ghost use mathlib.Core.Path.{_≡_};
-ghost use Prim.Native.Nat.{_+_, _≤_, _<_};
+ghost use Prim.Native.Nat.{_+_, _*_, _≤_, _<_};
 ghost use lib.ListN.{length, set};
 ghost use Rattle.format.specs.Answer.{refusalRecord};
 ghost use Rattle.lists.specs.Meaning.{verticesOf};
@@ -48,6 +48,7 @@ pub fn put_members(
     requires { ⌜ (1 ≤ size) × (size ≤ 4) ⌝ }
     requires { ⌜ n ≤ length (now keys) ⌝ }
     requires { ⌜ at + length (memberBytes (chainOf (now col)) (simplicesIn size (now keys) n)) ≤ length (now out) ⌝ }
+    requires { ⌜ n ≤ 8 * length (now col) ⌝ }
     ensures { λ r. ⌜ Put (now (out .entry)) at (memberBytes (chainOf (now (col .entry))) (simplicesIn size (now (keys .entry)) n)) (now (out .exit)) r ⌝ }
 {
     let mut next = at;
@@ -73,6 +74,7 @@ pub fn put_chain(out: &mut [u8], d: u8, keys: &[u64], n: usize, size: usize, col
     requires { ⌜ (1 ≤ size) × (size ≤ 4) ⌝ }
     requires { ⌜ n ≤ length (now keys) ⌝ }
     requires { ⌜ 7 + length (memberBytes (chainOf (now col)) (simplicesIn size (now keys) n)) ≤ length (now out) ⌝ }
+    requires { ⌜ n ≤ 8 * length (now col) ⌝ }
     ensures { λ r. ⌜ Put (now (out .entry)) 0 (chainBytes d (chainOf (now (col .entry))) (simplicesIn size (now (keys .entry)) n)) (now (out .exit)) r ⌝ }
 {
     let next = put_members(out, 7, keys, n, size, col);

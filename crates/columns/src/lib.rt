@@ -5,25 +5,20 @@
 ghost use mathlib.Core.Path.{_≡_};
 ghost use Prim.Native.Nat.{_+_, _*_, _≤_, _<_};
 ghost use mathlib.Core.Bool.{true};
-ghost use lib.ListN.{length, getD, set, take, replicate};
+ghost use lib.ListN.{length, set, take, replicate};
 ghost use Rattle.columns.specs.Column.{bit, bitAt, chainOf, xorBytes, flipped, clearedFront};
 ghost use Rattle.columns.specs.Slot.{roomOf, slot, storeSlot};
 ghost use Rattle.columns.specs.Word.{WordAt, HighestBit};
 ghost use Rattle.columns.specs.Search.{highestBelow};
 ghost use Rattle.columns.specs.Reduce.{redBytes, Settles, Inserts};
 
-// Byte `at` of a column; past the end it is 0.
-fn byte_at(col: &[u8], at: usize) -> u8
-    ensures { λ r. ⌜ r ≡ getD (now (col .entry)) at 0 ⌝ }
-{
-    if at < col.len() { col[at] } else { 0 }
-}
-
 // Whether the column holds rank i.
 pub fn test(col: &[u8], i: usize) -> bool
+    requires { ⌜ i < 8 * length (now col) ⌝ }
     ensures { λ r. ⌜ r ≡ bitAt (now (col .entry)) i ⌝ }
 {
-    (byte_at(col, i / 8) >> (i % 8)) % 2 == 1
+    let at = i / 8;
+    (col[at] >> (i % 8)) % 2 == 1
 }
 
 // Turns rank i over: puts it in, or takes it out.
@@ -103,6 +98,7 @@ fn highest_bit(word: u64) -> usize
 // The highest rank below `from` that the column holds. The rank just below is looked at first, since in a full column it is
 // the answer as often as not, and then the ranks below it in the same word all at once.
 pub fn next_down(col: &[u8], from: usize) -> Highest
+    requires { ⌜ from ≤ 8 * length (now col) ⌝ }
     ensures { λ r. ⌜ r ≡ highestBelow (chainOf (now (col .entry))) from ⌝ }
 {
     let mut i = from;

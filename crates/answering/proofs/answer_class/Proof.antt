@@ -4,7 +4,7 @@ use Prim.Native.Nat.{ℕ, _+_, _≤_}
 use native.Mathlib.Omega.{arith}
 use native.Mathlib.Nat.{le-trans}
 use mathlib.Core.Path.{_≡_, refl, sym, _∙_, subst}
-use lib.ListN.{length, length-replicate}
+use lib.ListN.{length, length-replicate, length-take, length-drop}
 use Rattle.columns.specs.Slot.{halfR}
 use Rattle.format.specs.Simplex.{Complex, simplices}
 use Rattle.format.specs.Reading.{questionOf}
@@ -113,7 +113,10 @@ put-chain-requires c κs =
       (omega arith, omega arith),
       (
         omega (arith, few chosen, length-replicate {A = ℕ} 512 0, named .number-vertices .kept .0),
-        le-trans (members-room (lists (start chosen)) (start chosen .pre .0 .held .sound) (start chosen .args .dim) _ (vertices-listed named) _) (start chosen .pre .1 .1 .1 .0),
+        (
+          le-trans (members-room (lists (start chosen)) (start chosen .pre .0 .held .sound) (start chosen .args .dim) _ (vertices-listed named) _) (start chosen .pre .1 .1 .1 .0),
+          simp (length-take, length-drop) (omega (arith, few chosen, named .before .before .before .before .before .before .class .kept .1 .0)),
+        ),
       ),
     )
 
@@ -157,7 +160,10 @@ put-chain-requires-2 c κs =
       (omega arith, omega (arith, small-dim (start chosen))),
       (
         numbers-fit (start chosen .pre .0 .held) _ _ (rows .numbers-of2 .ensures) (omega (arith, rows .before .if1 .left)) (omega (arith, small-dim (start chosen))) (m-is chosen),
-        le-trans (members-room (lists (start chosen)) (start chosen .pre .0 .held .sound) (start chosen .args .dim) _ (rows-listed rows) _) (start chosen .pre .1 .1 .1 .0),
+        (
+          le-trans (members-room (lists (start chosen)) (start chosen .pre .0 .held .sound) (start chosen .args .dim) _ (rows-listed rows) _) (start chosen .pre .1 .1 .1 .0),
+          simp (length-take, length-drop) (omega (arith, few chosen, rows .before .before .before .before .before .class .kept .1 .0)),
+        ),
       ),
     )
 

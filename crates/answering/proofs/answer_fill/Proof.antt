@@ -4,7 +4,7 @@ use Prim.Native.Nat.{_+_, _≤_}
 use native.Mathlib.Omega.{arith}
 use native.Mathlib.Nat.{le-trans}
 use mathlib.Core.Path.{_≡_, refl, sym, subst}
-use lib.ListN.{length}
+use lib.ListN.{length, length-take, length-drop}
 use borrow.Author.Tests.{not-true, not-false}
 use Rattle.chains.specs.Chain.{empty}
 use Rattle.columns.specs.Slot.{halfV}
@@ -43,6 +43,9 @@ module _ (c : tie.After-numbers-of) where
 
   few : c .before .before .of .result ≤ 512
   few = subst (λ n. n ≤ 512) (sym m-is) (few-simplices (lists start) (start .pre .0 .held .sound) _)
+
+  few-columns : c .before .of2 .result ≤ 512
+  few-columns = subst (λ n. n ≤ 512) (sym n-is) (few-simplices (lists start) (start .pre .0 .held .sound) _)
 
 -- the patch is made of the columns
 module _ (c : tie.After-numbers-of2) where
@@ -116,7 +119,10 @@ put-chain-requires c κs =
       (omega arith, omega (arith, small-dim (start chosen))),
       (
         numbers-fit (start chosen .pre .0 .held) _ _ (cols .numbers-of2 .ensures) (omega arith) (omega (arith, small-dim (start chosen))) (n-is chosen),
-        le-trans (members-room (lists (start chosen)) (start chosen .pre .0 .held .sound) (start chosen .args .dim + 1) _ (patch-list cols) _) (start chosen .pre .1 .1 .1 .0),
+        (
+          le-trans (members-room (lists (start chosen)) (start chosen .pre .0 .held .sound) (start chosen .args .dim + 1) _ (patch-list cols) _) (start chosen .pre .1 .1 .1 .0),
+          simp (length-take, length-drop) (omega (arith, few-columns chosen, cols .before .before .before .before .before .before .fill .kept .1 .0)),
+        ),
       ),
     )
 

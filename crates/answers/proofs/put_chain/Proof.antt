@@ -28,7 +28,7 @@ returns c =
     let byte = head .before .before .before .before in
     let members = byte .before .before .before .before in
     let start = members .before .before .before .before .before in
-    chain-put _ _ _ _ _ _ _ (start .pre .1 .1) (members .put-members .ensures) (byte .put-byte .ensures) (head .put-header .ensures)
+    chain-put _ _ _ _ _ _ _ (start .pre .1 .1 .0) (members .put-members .ensures) (byte .put-byte .ensures) (head .put-header .ensures)
 
 pub put-chain-spec : {M : Type 1} → statement M
 put-chain-spec =

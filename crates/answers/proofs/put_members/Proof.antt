@@ -60,7 +60,7 @@ put-member-requires c κs =
     let found = c .before .before in
     let turn = found .before .before in
     let head = turn .before in
-    member-room _ (list head) (head .loop .inv) (turn .loop-test .taken) (full head) (begin head .pre .1 .1) _ _ (stands found) _ (c .test .ensures)
+    member-room _ (list head) (head .loop .inv) (turn .loop-test .taken) (full head) (begin head .pre .1 .1 .0) _ _ (stands found) _ (c .test .ensures)
 
 add-i : tie.Need-add-i Inv-loop μ-loop
 add-i c = search needs
@@ -75,7 +75,7 @@ loop-again c =
     let found = tested .before .before in
     let turn = found .before .before in
     let head = turn .before in
-    members-go-on _ (list head) (head .loop .inv) (turn .loop-test .taken) (full head) (begin head .pre .1 .1) _ _ (stands found) _
+    members-go-on _ (list head) (head .loop .inv) (turn .loop-test .taken) (full head) (begin head .pre .1 .1 .0) _ _ (stands found) _
     (tested .test .ensures) (put .put-member .ensures)
 
 same-length : tie.Need-same-length Inv-loop μ-loop

@@ -76,7 +76,10 @@ loop-again c = λ k.
     (c .if1 .came)
 
 next-down-requires : tie.Need-next-down-requires Inv-loop μ-loop
-next-down-requires c κs = search needs
+next-down-requires c κs =
+    let head = c .before .before in
+    let start = begin head in
+    omega (arith, whole head, start .pre .1 .1, start .pre .0 .row-count, start .pre .0 .few-rows)
 
 enum-told : tie.Need-enum-told Inv-loop μ-loop
 enum-told c = search needs
