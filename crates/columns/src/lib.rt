@@ -95,8 +95,7 @@ fn highest_bit(word: u64) -> usize
     n
 }
 
-// The highest rank below `from` that the column holds. The rank just below is looked at first, since in a full column it is
-// the answer as often as not, and then the ranks below it in the same word all at once.
+// The highest rank below `from` that the column holds, by a look at each.
 pub fn next_down(col: &[u8], from: usize) -> Highest
     requires { ⌜ from ≤ 8 * length (now col) ⌝ }
     ensures { λ r. ⌜ r ≡ highestBelow (chainOf (now (col .entry))) from ⌝ }
@@ -106,14 +105,6 @@ pub fn next_down(col: &[u8], from: usize) -> Highest
         i -= 1;
         if test(col, i) {
             return Highest::At(i);
-        }
-        let at = i / 64 * 8;
-        if at + 8 <= col.len() {
-            let below = word_at(col, at) % (1u64 << (i % 64));
-            if below != 0 {
-                return Highest::At(at * 8 + highest_bit(below));
-            }
-            i = at * 8;
         }
     }
     Highest::Nothing
