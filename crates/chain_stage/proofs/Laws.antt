@@ -117,20 +117,20 @@ module _ (b : List ℕ) (at dim : ℕ) (X : Complex) where
         marks = λ f. let z : _≡_ {A = ℕ} 0 1 = cc in absurd (omega arith);
       }
 
-  module _ (size : ℕ) (p : List ℕ) (r : ChainRead) (is : p ≡ payloadAt b at size) (full : length (r .marks .on) ≡ 512) where
+  module _ (size : ℕ) (p : List ℕ) (r : ChainRead) (is : p ≡ payloadAt b at size) (full : length (r .on) ≡ 512) where
     pub stage-positions : {count : ℕ} → asked b at dim ≡ accepted (recordOfKind chainKind b at size) → length (simplices X dim) ≡ count → count ≤ 512 → PositionsRead p (at + headerBytes) count r
-        → ChainStageRead b at dim X (record { verdict = r .verdict; marks = r .marks; next = at + headerBytes + size })
+        → ChainStageRead b at dim X (record { verdict = r .verdict; marks = record { on = r .on }; next = at + headerBytes + size })
     stage-positions e n few read =
         record {
           set = named (simplices X dim) (positionsOf p);
           reading = chain-positions b at dim X size (r .verdict) e (positionsOf p) (ap positionsOf is) (ap (λ k. risingBelow k (at + headerBytes) 0 (positionsOf p)) n ∙ read .verdict);
           marks = λ fine once.
-              marked-by-place (r .marks .on) (simplices X dim) (named (simplices X dim) (positionsOf p)) (omega arith)
+              marked-by-place (r .on) (simplices X dim) (named (simplices X dim) (positionsOf p)) (omega arith)
               (λ i h. read .marks fine i ∙ sym (named-marks (simplices X dim) once (positionsOf p) (ap (λ k. allBelow k (positionsOf p)) n ∙ read .below fine) i h));
         }
 
     pub stage-walk : {edges : List Simplex} → asked b at dim ≡ accepted (recordOfKind walkKind b at size) → X .edges ≡ edges → length edges ≤ 512 → WalkRead p (at + headerBytes) edges r
-        → ChainStageRead b at dim X (record { verdict = r .verdict; marks = r .marks; next = at + headerBytes + size })
+        → ChainStageRead b at dim X (record { verdict = r .verdict; marks = record { on = r .on }; next = at + headerBytes + size })
     unfolding simplices
     stage-walk {edges} e own few read =
         let flat : simplices X dim ≡ edges = ap (simplices X) (walk-flat b at dim size e) ∙ own in
@@ -138,6 +138,6 @@ module _ (b : List ℕ) (at dim : ℕ) (X : Complex) where
           set = walkChain (steps p);
           reading = chain-walk b at dim X size (r .verdict) e (steps p) (ap steps is) (ap (λ l. readSteps l (at + headerBytes) (steps p)) own ∙ read .verdict);
           marks = λ fine once.
-              subst (λ l. Marked (r .marks .on) l (walkChain (steps p))) (sym flat)
-              (marked-by-place (r .marks .on) edges (walkChain (steps p)) (omega arith) (read .marks fine (subst Once flat once)));
+              subst (λ l. Marked (r .on) l (walkChain (steps p))) (sym flat)
+              (marked-by-place (r .on) edges (walkChain (steps p)) (omega arith) (read .marks fine (subst Once flat once)));
         }

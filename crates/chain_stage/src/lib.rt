@@ -90,10 +90,10 @@ pub fn read_chain(
             let p = records::payload(job, at, size);
             let read = chosen::read_positions(p, start, count);
             let verdict = read.verdict;
-            let marks = read.marks;
+            let on = read.on;
             ChainStage {
                 verdict,
-                marks,
+                marks: Marks { on },
                 next: start + size,
             }
         }
@@ -102,10 +102,10 @@ pub fn read_chain(
             let p = records::payload(job, at, size);
             let read = chosen::read_walk(p, start, edges, keys, first, next);
             let verdict = read.verdict;
-            let marks = read.marks;
+            let on = read.on;
             ChainStage {
                 verdict,
-                marks,
+                marks: Marks { on },
                 next: start + size,
             }
         }

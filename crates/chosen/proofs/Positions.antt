@@ -15,8 +15,9 @@ use Rattle.format.specs.Numbers.{chainItem}
 use Rattle.format.specs.Simplex.{allBelow}
 use Rattle.format.specs.Reading.{Reading, accepted, refused, _andThen_, u16At, positionsOf, risingBelow}
 use Rattle.format.specs.Marks.{checkPositions, positions-then, among}
-use Rattle.lists.specs.declared.Marks.{Marks}
+use Rattle.lists.specs.Verdicts.{readingOf}
 use Rattle.lists.specs.declared.Verdict.the-variants.{Fine, Refused}
+use Rattle.chosen.specs.declared.ChainRead.{ChainRead}
 use Rattle.chosen.specs.Meaning.{PositionsRead}
 
 -- the next position, while two bytes are left; none where fewer are
@@ -111,18 +112,18 @@ module _ {p : List ℕ} {base count : ℕ} {on : List Bool} {least at : ℕ} (no
   marking-marks i = sym (or-false (getD on i false)) ∙ ap (λ x. getD on i false || among i x) (sym none-left) ∙ now .marked i
 
 -- What is handed back with a refusal, and at the end.
-pub positions-refused : (p : List ℕ) (base count n q : ℕ) (marks : Marks) → risingBelow count base 0 (positionsOf p) ≡ refused n q → PositionsRead p base count (record { verdict = Refused n q; marks = marks })
-positions-refused p base count n q marks e =
+pub positions-refused : (p : List ℕ) (base count n q : ℕ) (on : List Bool) → risingBelow count base 0 (positionsOf p) ≡ refused n q → PositionsRead p base count (record { verdict = Refused n q; on = on })
+positions-refused p base count n q on e =
     record {
       verdict = e;
       below = λ f. let z : _≡_ {A = ℕ} 0 1 = cc in absurd (omega arith);
       marks = λ f. let z : _≡_ {A = ℕ} 0 1 = cc in absurd (omega arith);
     }
 
-pub positions-read : {p : List ℕ} {base count : ℕ} (marks : Marks) {least at : ℕ} → Marking p base count (marks .on) least at → length p ≤ at + 1 → PositionsRead p base count (record { verdict = Fine; marks = marks })
-positions-read marks now done =
+pub positions-read : {p : List ℕ} {base count : ℕ} (r : ChainRead) {least at : ℕ} → r .verdict ≡ Fine → Marking p base count (r .on) least at → length p ≤ at + 1 → PositionsRead p base count r
+positions-read {p} r fine now done =
     record {
-      verdict = marking-accepts now done;
+      verdict = marking-accepts now done ∙ ap (λ v. readingOf v (positionsOf p)) (sym fine);
       below = λ f. marking-below now done;
       marks = λ f. marking-marks now done;
     }

@@ -82,15 +82,15 @@ module _ {p : List ℕ} {base : ℕ} {edges : List Simplex} {on : List Bool} {i 
       one once j h (no n) = rw (step-marks edges once (stepAt p i) r e j h, getD-set-other on r j true false n, ne-eqb j r n)
 
 -- What is handed back with a refusal, and at the end.
-pub walk-refused : {p : List ℕ} {base : ℕ} {edges : List Simplex} {n q : ℕ} (marks : Marks) → readSteps edges base (steps p) ≡ refused n q → WalkRead p base edges (record { verdict = Refused n q; marks = marks })
-walk-refused marks e = record { verdict = e; marks = λ f. let z : _≡_ {A = ℕ} 0 1 = cc in absurd (omega arith) }
+pub walk-refused : {p : List ℕ} {base : ℕ} {edges : List Simplex} {n q : ℕ} (on : List Bool) → readSteps edges base (steps p) ≡ refused n q → WalkRead p base edges (record { verdict = Refused n q; on = on })
+walk-refused on e = record { verdict = e; marks = λ f. let z : _≡_ {A = ℕ} 0 1 = cc in absurd (omega arith) }
 
-pub walk-read : {p : List ℕ} {base : ℕ} {edges : List Simplex} (marks : Marks) {i : ℕ} → Walking p base edges (marks .on) i → length p ≤ i → WalkRead p base edges (record { verdict = Fine; marks = marks })
+pub walk-read : {p : List ℕ} {base : ℕ} {edges : List Simplex} (on : List Bool) {i : ℕ} → Walking p base edges on i → length p ≤ i → WalkRead p base edges (record { verdict = Fine; on = on })
 unfolding checkSteps walkChain listed
-walk-read {p} {edges = edges} marks {i} now done =
+walk-read {p} {edges = edges} on {i} now done =
     record {
       verdict = now .rest ∙ rw (no-steps p i done);
-      marks = λ f once j h. sym (or-false (getD (marks .on) j false)) ∙ ap (λ x. getD (marks .on) j false || listed (getD edges j []) x) (sym (no-steps p i done)) ∙ now .marked once j h;
+      marks = λ f once j h. sym (or-false (getD on j false)) ∙ ap (λ x. getD on j false || listed (getD edges j []) x) (sym (no-steps p i done)) ∙ now .marked once j h;
     }
 
 -- a rank in an index is below the list's limit

@@ -17,7 +17,7 @@ use Rattle.chosen.specs.declared.ChainRead.{ChainRead}
 pub record PositionsRead (p : List ℕ) (base count : ℕ) (r : ChainRead) : Type 0 where
   pub verdict : risingBelow count base 0 (positionsOf p) ≡ readingOf (r .verdict) (positionsOf p)
   pub below : r .verdict ≡ Fine → allBelow count (positionsOf p) ≡ true
-  pub marks : r .verdict ≡ Fine → (i : ℕ) → getD (r .marks .on) i false ≡ among i (positionsOf p)
+  pub marks : r .verdict ≡ Fine → (i : ℕ) → getD (r .on) i false ≡ among i (positionsOf p)
 
 -- the step from place i of a walk: to the next vertex, and from the last back to the first
 abbrev pub stepAt : List ℕ → ℕ → Simplex
@@ -26,4 +26,4 @@ stepAt p i = edgeBetween (getD p i 0) (cond (ltb (i + 1) (length p)) (getD p (i 
 -- a walk, read: where the verdict is fine the marks are the edges that some step uses
 pub record WalkRead (p : List ℕ) (base : ℕ) (edges : List Simplex) (r : ChainRead) : Type 0 where
   pub verdict : readSteps edges base (steps p) ≡ readingOf (r .verdict) (steps p)
-  pub marks : r .verdict ≡ Fine → Once edges → (i : ℕ) → i < length edges → getD (r .marks .on) i false ≡ walkChain (steps p) (getD edges i [])
+  pub marks : r .verdict ≡ Fine → Once edges → (i : ℕ) → i < length edges → getD (r .on) i false ≡ walkChain (steps p) (getD edges i [])

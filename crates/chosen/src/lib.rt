@@ -1,7 +1,7 @@
 // The chain that a job asks about: a chain record's positions, or a walk's steps, become marks by rank.
 use lists::Found;
-use lists::Marks;
 use lists::Simplex;
+use lists::SimplexList;
 use lists::Verdict;
 ghost use mathlib.Core.Path.{_≡_};
 ghost use Prim.Native.Nat.{_≤_, _<_};
@@ -12,10 +12,11 @@ ghost use Rattle.lookup.specs.Indexed.{Proper, Indexed};
 ghost use Rattle.lookup.specs.Numbered.{simplicesIn};
 ghost use Rattle.chosen.specs.Meaning.{PositionsRead, WalkRead, stepAt};
 
-// A verdict, and the marks beside it, which count only where nothing was refused.
+// A verdict, and the marks beside it, which count only where nothing was refused. They stand bare, so that each is set where it is
+// handed back from.
 pub struct ChainRead {
     pub verdict: Verdict,
-    pub marks: Marks,
+    pub on: [bool; SimplexList::LIMIT],
 }
 
 impl ChainRead {
@@ -32,7 +33,10 @@ pub fn read_positions(p: &[u8], base: usize, count: usize) -> ChainRead
     requires { ⌜ (count ≤ 512) × (base ≤ 65536) ⌝ }
     ensures { λ r. ⌜ PositionsRead (now (p .entry)) base count r ⌝ }
 {
-    let mut marks = Marks::none();
+    let mut read = ChainRead {
+        verdict: Verdict::Fine,
+        on: [false; SimplexList::LIMIT],
+    };
     let mut least = 0;
     let mut at = 0;
     while at + 1 < p.len() {
@@ -40,23 +44,20 @@ pub fn read_positions(p: &[u8], base: usize, count: usize) -> ChainRead
         if position < least {
             return ChainRead {
                 verdict: Verdict::Refused(Verdict::CHAIN_ITEM, base + at),
-                marks,
+                on: [false; SimplexList::LIMIT],
             };
         }
         if count <= position {
             return ChainRead {
                 verdict: Verdict::Refused(Verdict::CHAIN_ITEM, base + at),
-                marks,
+                on: [false; SimplexList::LIMIT],
             };
         }
-        marks.on[position] = true;
+        read.on[position] = true;
         least = position + 1;
         at += 2;
     }
-    ChainRead {
-        verdict: Verdict::Fine,
-        marks,
-    }
+    read
 }
 
 // The edge between two vertices, the lower one first.
@@ -103,21 +104,21 @@ pub fn read_walk(
     requires { ⌜ Indexed (simplicesIn 2 (now keys) edges) (now keys) (now first) (now next) edges ⌝ }
     ensures { λ r. ⌜ WalkRead (now (p .entry)) base (simplicesIn 2 (now (keys .entry)) edges) r ⌝ }
 {
-    let mut marks = Marks::none();
+    let mut on = [false; SimplexList::LIMIT];
     let mut i = 0;
     while i < p.len() {
         let found = lookup::find(keys, first, next, edges, step_at(p, i));
         let Found::At(rank) = found else {
             return ChainRead {
                 verdict: Verdict::Refused(Verdict::CHAIN_ITEM, base + i),
-                marks,
+                on,
             };
         };
-        marks.on[rank] = true;
+        on[rank] = true;
         i += 1;
     }
     ChainRead {
         verdict: Verdict::Fine,
-        marks,
+        on,
     }
 }

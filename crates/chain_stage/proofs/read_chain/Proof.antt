@@ -68,8 +68,8 @@ read-positions-requires c κs =
     let known = c .before in
     (start (known .before .before .before) .pre .1 .0 .0, omega (arith, positions-inside known))
 
-add-t26 : tie.Need-add-t26
-add-t26 c = omega (arith, positions-inside (c .before .before .before))
+add-t27 : tie.Need-add-t27
+add-t27 c = omega (arith, positions-inside (c .before .before .before))
 
 enum-known-opened-3 : tie.Need-enum-known-opened-3
 enum-known-opened-3 c = search needs
@@ -86,8 +86,8 @@ read-walk-requires c κs =
     let pre = start (known .before .before .before) .pre in
     ((omega (arith, walk-inside known), pre .1 .0 .1), pre .1 .1)
 
-add-t27 : tie.Need-add-t27
-add-t27 c = omega (arith, walk-inside (c .before .before .before))
+add-t29 : tie.Need-add-t29
+add-t29 c = omega (arith, walk-inside (c .before .before .before))
 
 returns : tie.Need-returns
 returns c = λ X own count.
@@ -97,10 +97,10 @@ returns c = λ X own count.
     (told (chainOpened (a .job .now) (a .at)) _ _ _ (opened .open-chain .ensures) (c .before .before .opened .given .1))
 
 -- the marks have a place for each rank
-positions-marked : (c : tie.After-read-positions) → length (c .read-positions .result .marks .on) ≡ 512
+positions-marked : (c : tie.After-read-positions) → length (c .read-positions .result .on) ≡ 512
 positions-marked c = search needs
 
-walk-marked : (c : tie.After-read-walk) → length (c .read-walk .result .marks .on) ≡ 512
+walk-marked : (c : tie.After-read-walk) → length (c .read-walk .result .on) ≡ 512
 walk-marked c = search needs
 
 returns-2 : tie.Need-returns-2
@@ -132,12 +132,12 @@ read-chain-spec =
     add-start
     payload-requires
     read-positions-requires
-    add-t26
+    add-t27
     enum-known-opened-3
     add-start-2
     payload-requires-2
     read-walk-requires
-    add-t27
+    add-t29
     returns
     returns-2
     returns-3)

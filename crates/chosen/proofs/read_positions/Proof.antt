@@ -1,23 +1,22 @@
 -- `chosen::read_positions` meets its contract: the loop keeps `Marking`, and each return is one of its ends.
 use Prim.Native.Nat.{_+_, _-_}
+use mathlib.Core.Path.{_≡_, refl}
 use native.Mathlib.Omega.{arith}
 use lib.ListN.{length}
+use Rattle.lists.specs.declared.Verdict.the-variants.{Fine}
 use Rattle.chosen.proofs.Positions.{Marking, marking-starts, marking-low, marking-high, marking-goes-on, positions-refused, positions-read}
 use borrow.Author.Needs.{needs}
 use Rattle.chosen.proofs.read_positions.Statement.{statement}
 use Rattle.chosen.proofs.read_positions.Tie as tie
 
 abbrev Inv-loop : tie.InvT-loop
-Inv-loop p base count marks₀ least₀ at₀ marks least at = Marking p base count (marks .on) least at
+Inv-loop p base count read₀ least₀ at₀ read least at = (read .verdict ≡ Fine) × Marking p base count (read .on) least at
 
 abbrev μ-loop : tie.MeasureT-loop
-μ-loop p base count marks₀ least₀ at₀ marks least at = length p + 1 - at
-
-none-requires : tie.Need-none-requires Inv-loop μ-loop
-none-requires c κs = search needs
+μ-loop p base count read₀ least₀ at₀ read least at = length p + 1 - at
 
 loop-holds : tie.Need-loop-holds Inv-loop μ-loop
-loop-holds c = marking-starts _ _ _ (c .none .result .on) (c .none .ensures)
+loop-holds c = (refl, marking-starts _ _ _ _ refl)
 
 add-loop : tie.Need-add-loop Inv-loop μ-loop
 add-loop c = search needs
@@ -25,24 +24,24 @@ add-loop c = search needs
 u16-at-requires : tie.Need-u16-at-requires Inv-loop μ-loop
 u16-at-requires c κs = search needs
 
-add-t12 : tie.Need-add-t12 Inv-loop μ-loop
-add-t12 c = search needs
+add-t13 : tie.Need-add-t13 Inv-loop μ-loop
+add-t13 c = search needs
 
 returns : tie.Need-returns Inv-loop μ-loop
 returns c =
     let at = c .before .before .before .loop in
-    positions-refused _ _ _ _ _ (at .marks) (marking-low (at .inv) (omega arith) (omega arith))
+    positions-refused _ _ _ _ _ _ (marking-low (at .inv .1) (omega arith) (omega arith))
 
-add-t15 : tie.Need-add-t15 Inv-loop μ-loop
-add-t15 c = search needs
+add-t16 : tie.Need-add-t16 Inv-loop μ-loop
+add-t16 c = search needs
 
 returns-2 : tie.Need-returns-2 Inv-loop μ-loop
 returns-2 c =
     let at = c .before .before .before .before .loop in
-    positions-refused _ _ _ _ _ (at .marks) (marking-high (at .inv) (omega arith) (omega arith))
+    positions-refused _ _ _ _ _ _ (marking-high (at .inv .1) (omega arith) (omega arith))
 
-element-write-marks : tie.Need-element-write-marks Inv-loop μ-loop
-element-write-marks c = omega arith
+element-write-read : tie.Need-element-write-read Inv-loop μ-loop
+element-write-read c = omega arith
 
 add-least : tie.Need-add-least Inv-loop μ-loop
 add-least c = search needs
@@ -55,11 +54,13 @@ loop-less c = search needs
 
 loop-again : tie.Need-loop-again Inv-loop μ-loop
 loop-again c =
-    let at = c .before .before .before .before .loop in
-    marking-goes-on (at .inv) (omega arith) (c .before .before .u16-at .result) (c .before .before .u16-at .ensures .is) (omega arith) (omega arith) (omega arith)
+    let at = c .before .before .before .before .loop in (
+      at .inv .0,
+      marking-goes-on (at .inv .1) (omega arith) (c .before .before .u16-at .result) (c .before .before .u16-at .ensures .is) (omega arith) (omega arith) (omega arith),
+    )
 
 returns-3 : tie.Need-returns-3 Inv-loop μ-loop
-returns-3 c = positions-read (c .before .loop .marks) (c .before .loop .inv) (omega arith)
+returns-3 c = positions-read (c .before .loop .read) (c .before .loop .inv .0) (c .before .loop .inv .1) (omega arith)
 
 pub read-positions-spec : {M : Type 1} → statement M
 read-positions-spec =
@@ -67,15 +68,14 @@ read-positions-spec =
     (tie.spec
     Inv-loop
     μ-loop
-    none-requires
     loop-holds
     add-loop
     u16-at-requires
-    add-t12
+    add-t13
     returns
-    add-t15
+    add-t16
     returns-2
-    element-write-marks
+    element-write-read
     add-least
     add-at
     loop-less

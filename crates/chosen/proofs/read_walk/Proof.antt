@@ -1,6 +1,6 @@
 -- `chosen::read_walk` meets its contract: the loop keeps `Walking`, and each return is one of its ends.
 use Prim.Native.Nat.{_-_}
-use mathlib.Core.Path.{_≡_}
+use mathlib.Core.Path.{_≡_, refl}
 use lib.ListN.{length}
 use Rattle.format.specs.Simplex.{rank}
 use Rattle.lists.specs.Meaning.{rankOf}
@@ -13,23 +13,20 @@ use Rattle.chosen.proofs.read_walk.Statement.{statement}
 use Rattle.chosen.proofs.read_walk.Tie as tie
 
 abbrev Inv-loop : tie.InvT-loop
-Inv-loop p base edges keys first next marks₀ i₀ marks i = Walking p base (simplicesIn 2 keys edges) (marks .on) i
+Inv-loop p base edges keys first next on₀ i₀ on i = Walking p base (simplicesIn 2 keys edges) on i
 
 abbrev μ-loop : tie.MeasureT-loop
-μ-loop p base edges keys first next marks₀ i₀ marks i = length p - i
-
-none-requires : tie.Need-none-requires Inv-loop μ-loop
-none-requires c κs = search needs
+μ-loop p base edges keys first next on₀ i₀ on i = length p - i
 
 loop-holds : tie.Need-loop-holds Inv-loop μ-loop
-loop-holds c = walking-starts _ _ _ (c .none .result .on) (c .none .ensures)
+loop-holds c = walking-starts _ _ _ _ refl
 
 step-at-requires : tie.Need-step-at-requires Inv-loop μ-loop
 step-at-requires c κs = search needs
 
 -- what was known before the loop
 abbrev start : tie.At-loop Inv-loop μ-loop → tie.Start Inv-loop μ-loop
-start p = p .before .before .before .before .before .before
+start p = p .before .before .before .before .before
 
 find-requires : tie.Need-find-requires Inv-loop μ-loop
 find-requires c κs = start (c .before .before) .pre .1 .1 .chained
@@ -48,18 +45,18 @@ enum-known-found c = search needs
 enum-told : tie.Need-enum-told Inv-loop μ-loop
 enum-told c = search needs
 
-add-t15 : tie.Need-add-t15 Inv-loop μ-loop
-add-t15 c = search needs
+add-t14 : tie.Need-add-t14 Inv-loop μ-loop
+add-t14 c = search needs
 
 returns : tie.Need-returns Inv-loop μ-loop
 returns c =
     let looked = c .before .before in
     let turn = looked .before .before in
-    walk-refused (turn .before .loop .marks)
+    walk-refused (turn .before .loop .on)
     (walking-astray (turn .before .loop .inv) (turn .loop-test .taken) (found-rank looked _ (c .enum-told .given .1)))
 
-element-write-marks : tie.Need-element-write-marks Inv-loop μ-loop
-element-write-marks c =
+array-write-on : tie.Need-array-write-on Inv-loop μ-loop
+array-write-on c =
     let looked = c .before .before .before in
     let start = start (looked .before .before .before) in
     rank-few _ (start .pre .0 .1) (start .pre .1 .1) (found-rank looked _ (c .before .found .given .1))
@@ -80,7 +77,7 @@ loop-again c =
     (rank-few _ (start .pre .0 .1) (start .pre .1 .1) found)
 
 returns-2 : tie.Need-returns-2 Inv-loop μ-loop
-returns-2 c = walk-read (c .before .loop .marks) (c .before .loop .inv) (c .loop-test .left)
+returns-2 c = walk-read (c .before .loop .on) (c .before .loop .inv) (c .loop-test .left)
 
 pub read-walk-spec : {M : Type 1} → statement M
 read-walk-spec =
@@ -88,15 +85,14 @@ read-walk-spec =
     (tie.spec
     Inv-loop
     μ-loop
-    none-requires
     loop-holds
     step-at-requires
     find-requires
     enum-known-found
     enum-told
-    add-t15
+    add-t14
     returns
-    element-write-marks
+    array-write-on
     add-i
     loop-less
     loop-again
