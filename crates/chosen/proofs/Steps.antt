@@ -16,7 +16,6 @@ use Rattle.format.specs.Simplex.{Simplex, same, rank, ranked, unlisted, listed}
 use Rattle.format.specs.Reading.{Reading, accepted, refused, _andThen_, edgeBetween, stepsFrom, steps, readSteps, walkChain}
 use Rattle.format.specs.Listed.{isRanked, listed-ranked, rank-stands}
 use Rattle.format.specs.Marks.{checkSteps, steps-then, step-marks, Once}
-use Rattle.lists.specs.declared.Marks.{Marks}
 use Rattle.lists.specs.declared.Verdict.the-variants.{Fine, Refused}
 use Rattle.lists.specs.Meaning.{rankOf}
 use Rattle.lists.specs.declared.Found.{Found}

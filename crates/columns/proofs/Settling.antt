@@ -194,7 +194,7 @@ module _ {h : ℕ} {work : List ℕ} {taken : List Bool} {rows : ℕ} {start cur
           ∙ highest-held (chainOf cur) (at * 8 + k)
           (sym (word-row (at * 8 + k) (omega arith) (omega (arith, bit-below))) ∙ ap (bit word) back ∙ top .holds))
 
-      pub scan-row-low : at * 8 + k < 8 * h
+      scan-row-low : at * 8 + k < 8 * h
       scan-row-low = row-low (s .settling) row-found refl
 
       pub scan-row-below : at * 8 + k < rows

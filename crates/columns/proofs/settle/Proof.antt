@@ -5,7 +5,7 @@ use Prim.Native.Nat.{ℕ, _+_, _*_, _<_, _≤_}
 use native.Mathlib.Omega.{arith}
 use lib.ListN.{length}
 use Rattle.columns.specs.SlotLaws.{slot-fits}
-use Rattle.columns.proofs.Settling.{Scanning, scanning-start, scanning-end, scanning-down, scanning-stop, scanning-add, scan-low, scan-row-low, scan-row-below, bit-below}
+use Rattle.columns.proofs.Settling.{Scanning, scanning-start, scanning-end, scanning-down, scanning-stop, scanning-add, scan-low, scan-row-below, bit-below}
 use borrow.Author.Needs.{needs}
 use Rattle.columns.proofs.settle.Statement.{statement}
 use Rattle.columns.proofs.settle.Tie as tie
