@@ -1,4 +1,5 @@
 /* Tests at the limits: the largest that is accepted, and one more. */
+#include <stdio.h>
 #include <string.h>
 
 #include "by_hand.h"
@@ -14,58 +15,77 @@ static void try_draft(const char *name, const struct draft_job *draft, const cha
                 draft->length);
 }
 
+/*
+ * What a list may hold, what a small job's list may hold for the answer call (it lends
+ * shorter arrays then), and one more of each.
+ */
+static void try_count(unsigned count, const char *of, const struct draft_job *draft,
+                      const char *answer)
+{
+    char name[32];
+    snprintf(name, sizeof name, "%u %s", count, of);
+    try_draft(name, draft, answer);
+}
+
 static void test_edge_count(void)
 {
+    static const unsigned counts[] = {256, 257, 512, 513};
     static const unsigned vertices_1_and_2[] = {1, 2};
     static struct draft_job draft;
-    for (unsigned edges = 512; edges <= 513; edges++) {
+    for (unsigned i = 0; i < 4; i++) {
         draft_start(&draft);
         draft_head(&draft, MVZ_FILL, 1, 256);
-        draft_star_edges(&draft, edges);
+        draft_star_edges(&draft, counts[i]);
         draft_hex(&draft, "00 00 00 00 03 00 00 00 00 00 04 00");
         draft_positions(&draft, vertices_1_and_2, 2);
-        if (edges == 512)
-            try_draft("512 edges", &draft, "05 00 00 00 10 00 01 00 01 00 02");
-        else
-            try_draft("513 edges", &draft, "06 00 00 00 11 00 04 00 0a 00 00 00");
+        try_count(counts[i], "edges", &draft,
+                  counts[i] <= 512 ? "05 00 00 00 10 00 01 00 01 00 02"
+                                   : "06 00 00 00 11 00 04 00 0a 00 00 00");
     }
 }
 
 /* The rim of the first triangle: no chain but the empty one is smaller than it alone. */
 static void test_triangle_count(void)
 {
+    static const unsigned counts[] = {128, 129, 512, 513};
     static const unsigned rim_of_012[] = {0, 1, 15};
     static struct draft_job draft;
-    for (unsigned triangles = 512; triangles <= 513; triangles++) {
+    for (unsigned i = 0; i < 4; i++) {
         draft_start(&draft);
         draft_head(&draft, MVZ_FILL, 2, 16);
         draft_choices(&draft, 16, 2, 120);
-        draft_choices(&draft, 16, 3, triangles);
+        draft_choices(&draft, 16, 3, counts[i]);
         draft_hex(&draft, "00 00 00 00 04 00");
         draft_positions(&draft, rim_of_012, 3);
-        if (triangles == 512)
-            try_draft("512 triangles", &draft, "04 00 00 00 10 00 02 00 01 02");
-        else
-            try_draft("513 triangles", &draft, "06 00 00 00 11 00 04 00 00 01 00 00");
+        try_count(counts[i], "triangles", &draft,
+                  counts[i] <= 512 ? "04 00 00 00 10 00 02 00 01 02"
+                                   : "06 00 00 00 11 00 04 00 00 01 00 00");
     }
 }
 
-/* Triangles 012 013 023 123 of 15 vertices stand at 0, 1, 13 and 91. */
+/*
+ * Triangles 012 013 023 123 of 15 vertices stand at 0, 1, 13 and 91.  Without
+ * tetrahedra nothing fills their shell.
+ */
 static void test_tetrahedron_count(void)
 {
+    static const unsigned counts[] = {0, 1, 512, 513};
+    static const char *const answers[] = {
+        "06 00 00 00 11 00 0d 00 00 00 00 00",
+        "05 00 00 00 10 00 03 00 01 02 03",
+        "05 00 00 00 10 00 03 00 01 02 03",
+        "06 00 00 00 11 00 04 00 3d 06 00 00", /* at 10 + 216 + 1371 */
+    };
     static const unsigned rim_of_0123[] = {0, 1, 13, 91};
     static struct draft_job draft;
-    for (unsigned tetrahedra = 512; tetrahedra <= 513; tetrahedra++) {
+    for (unsigned i = 0; i < 4; i++) {
         draft_start(&draft);
         draft_head(&draft, MVZ_FILL, 3, 15);
         draft_choices(&draft, 15, 2, 105);
         draft_choices(&draft, 15, 3, 455);
-        draft_choices(&draft, 15, 4, tetrahedra);
+        draft_choices(&draft, 15, 4, counts[i]);
         draft_positions(&draft, rim_of_0123, 4);
-        if (tetrahedra == 512)
-            try_draft("512 tetrahedra", &draft, "05 00 00 00 10 00 03 00 01 02 03");
-        else /* at 10 + 216 + 1371 */
-            try_draft("513 tetrahedra", &draft, "06 00 00 00 11 00 04 00 3d 06 00 00");
+        try_count(counts[i], "tetrahedra", &draft, answers[i]);
     }
 }
 

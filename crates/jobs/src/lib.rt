@@ -100,11 +100,14 @@ pub struct Sizes {
     pub tetrahedra: usize,
 }
 
+// The lists stand behind the head's record: its header and its four bytes.
+const LISTS: usize = 10;
+
 pub fn list_sizes(job: &[u8]) -> Sizes
     ensures { λ r. ⌜ SizesTold (now (job .entry)) 10 r ⌝ }
 {
-    let edges = stages::list_bytes(job, 10, SimplexList::EDGES);
-    let behind_edges = 10 + Header::BYTES + edges;
+    let edges = stages::list_bytes(job, LISTS, SimplexList::EDGES);
+    let behind_edges = LISTS + Header::BYTES + edges;
     let triangles = stages::list_bytes(job, behind_edges, SimplexList::TRIANGLES);
     let behind_triangles = behind_edges + Header::BYTES + triangles;
     let tetrahedra = stages::list_bytes(job, behind_triangles, SimplexList::TETRAHEDRA);
@@ -372,7 +375,7 @@ pub fn read_unedited(
                 HeadRead::Sound(head) => after_head(
                     job,
                     head,
-                    10,
+                    LISTS,
                     e_keys,
                     t_keys,
                     s_keys,
