@@ -9,32 +9,32 @@ use lib.Dec.{leb}
 use borrow.Author.Tests.{eq-eqb, ne_eqb, leb-true}
 use lib.ListN.{length, get_or}
 use Rattle.chains.specs.Chain.{Chain, boundary, SmallestFilling, SmallestInClass, Fills}
-use Rattle.format.specs.Numbers.{small, rimOpen, noFilling}
+use Rattle.format.specs.Numbers.{small, rim_open, no_filling}
 use Rattle.format.specs.Simplex.{Simplex, Complex, simplices, lower, columns}
-use Rattle.format.specs.Reading.{Reading, refused, reading, Job, Question, fill, class, questionOf, dimensionFits, chainDimension}
+use Rattle.format.specs.Reading.{Reading, refused, reading, Job, Question, fill, class, question_of, dimension_fits, chain_dimension}
 use Rattle.format.specs.Listed.{and-true}
 use Rattle.format.specs.Rims.{filled-closed}
-use Rattle.format.specs.Answer.{rowDimension, rows, cols, matrix, askedChain, rim, FillAnswer, open-rim, unfilled, patch, AnswerTo, Answered, refusalRecord, chainRecord}
+use Rattle.format.specs.Answer.{row_dimension, rows, cols, matrix, asked_chain, rim, FillAnswer, open_rim, unfilled, patch, AnswerTo, Answered, refusal_record, chain_record}
 use Rattle.lists.specs.declared.Verdict.TheVariants.{Fine}
-use Rattle.lent_lists.specs.Held.{complexIn}
-use Rattle.jobs.specs.Meaning.{Asking, Told, jobIn}
-use Rattle.jobs.specs.Known.{told-accepted, told-asking}
+use Rattle.lent_lists.specs.Held.{complex_in}
+use Rattle.jobs.specs.Meaning.{Asking, Told, job_in}
+use Rattle.jobs.specs.Known.{told-accepted, told_asking}
 use Rattle.jobs.specs.declared.NumbersRead.{NumbersRead}
-use Rattle.solver.specs.Solved.{asked, rimOf, RimTold, FillSays, ClassTold}
+use Rattle.solver.specs.Solved.{asked, rim_of, RimTold, FillSays, ClassTold}
 use Rattle.slots.specs.declared.Filled.TheVariants as filled
 use Rattle.writer.specs.Meaning.{Put}
-use Rattle.answers.specs.Meaning.{chainBytes}
+use Rattle.answers.specs.Meaning.{chain_bytes}
 use Rattle.answering.specs.Meaning.{Answers, AnswersFile}
 use Rattle.answering.proofs.Lists.{chain-bytes}
 
-module _ {read : NumbersRead} {eKeys tKeys sKeys tSides sSides : List ℕ}
-    (k : Asking read eKeys tKeys sKeys tSides sSides) {dim : ℕ}
-    (dim-is : dim ≡ chainDimension (questionOf read.head.question) read.head.d) where
+module _ {read : NumbersRead} {e_keys t_keys s_keys t_sides s_sides : List ℕ}
+    (k : Asking read e_keys t_keys s_keys t_sides s_sides) {dim : ℕ}
+    (dim-is : dim ≡ chain_dimension (question_of read.head.question) read.head.d) where
   abbrev j : Job
-  j = jobIn read eKeys tKeys sKeys k.set
+  j = job_in read e_keys t_keys s_keys k.set
 
   abbrev X : Complex
-  X = complexIn read.head.v read.counts eKeys tKeys sKeys
+  X = complex_in read.head.v read.counts e_keys t_keys s_keys
 
   -- the lists of the job are those of the complex
   same_rows : simplices X dim ≡ rows j
@@ -43,100 +43,100 @@ module _ {read : NumbersRead} {eKeys tKeys sKeys tSides sSides : List ℕ}
   same-cols : simplices X (dim + 1) ≡ cols j
   same-cols = ap (simplices X) (add-one dim) ∙ ap (λ (n : ℕ). simplices X (suc n)) dim-is
 
-  same-lower : lower X dim ≡ lower X (rowDimension j)
+  same-lower : lower X dim ≡ lower X (row_dimension j)
   same-lower = ap (lower X) dim-is
 
   -- A is the marked chain
-  same_asked : asked (rows j) read.marks ≡ askedChain j
+  same_asked : asked (rows j) read.marks ≡ asked_chain j
   same_asked = ap (λ m i. get_or m i false) k.marks.marks
 
   -- A is to be filled
-  module _ (q : questionOf read.head.question ≡ fill) where
+  module _ (q : question_of read.head.question ≡ fill) where
     asks-fill : (answer : List ℕ) → FillAnswer j answer → AnswerTo j j.question answer
     asks-fill answer a = subst (λ x. AnswerTo j x answer) (sym q) a
 
     -- the solver found a filling, so the rim is empty
     pub answers-patch : (x : Chain) {before after : List ℕ} {count : ℕ} {l : List Simplex} → l ≡ simplices X (dim + 1)
         → FillSays (simplices X dim) (simplices X (dim + 1)) read.marks filled.Found x
-        → Put before 0 (chainBytes read.head.d x l) after count → Answers j before after count
+        → Put before 0 (chain_bytes read.head.d x l) after count → Answers j before after count
     answers-patch x {before} {after} {count} same says put =
         let found = subst₂ (λ (r c : List Simplex). FillSays r c read.marks filled.Found x) same_rows same-cols says in
-        let smallest : SmallestFilling (matrix j) (length (cols j)) (askedChain j) x =
+        let smallest : SmallestFilling (matrix j) (length (cols j)) (asked_chain j) x =
         subst (λ A. SmallestFilling (matrix j) (length (cols j)) A x) same_asked found in
         let bytes =
-        ap (chainBytes read.head.d x) same
+        ap (chain_bytes read.head.d x) same
         ∙ chain-bytes X k.held.sound (dim + 1) read.head.d x
-        ∙ ap (λ (m : List Simplex). chainRecord read.head.d m x) same-cols in
+        ∙ ap (λ (m : List Simplex). chain_record read.head.d m x) same-cols in
         record {
-          answer = chainRecord j.d (cols j) x;
+          answer = chain_record j.d (cols j) x;
           is = asks-fill _ (patch (filled-closed small j k.sound x smallest.has) x smallest refl);
           put = subst (λ b. Put before 0 b after count) bytes put;
         }
 
     -- it found none, and then it was asked whether the rim is empty
     module _ {closed : Bool} (told : RimTold (lower X dim) (simplices X dim) read.marks closed) where
-      same-rim : rimOf (lower X dim) (simplices X dim) read.marks ≡ rim j
+      same-rim : rim_of (lower X dim) (simplices X dim) read.marks ≡ rim j
       same-rim =
-          ap₂ (λ (l r : List Simplex). rimOf l r read.marks) same-lower same_rows
-          ∙ ap (boundary (columns (lower X (rowDimension j)) (rows j)) (length (rows j))) same_asked
+          ap₂ (λ (l r : List Simplex). rim_of l r read.marks) same-lower same_rows
+          ∙ ap (boundary (columns (lower X (row_dimension j)) (rows j)) (length (rows j))) same_asked
 
-      pub answers-open : {before after : List ℕ} {count : ℕ} → closed ≡ false → Put before 0 (refusalRecord rimOpen 0) after count
+      pub answers-open : {before after : List ℕ} {count : ℕ} → closed ≡ false → Put before 0 (refusal_record rim_open 0) after count
           → Answers j before after count
       answers-open e put = record {
-        answer = refusalRecord rimOpen 0;
-        is = asks-fill _ (open-rim (λ none. told.is_open e (same-rim ∙ none)) refl);
+        answer = refusal_record rim_open 0;
+        is = asks-fill _ (open_rim (λ none. told.is_open e (same-rim ∙ none)) refl);
         put = put;
       }
 
       pub answers-unfilled : (x : Chain) {before after : List ℕ} {count : ℕ} → closed ≡ true
           → FillSays (simplices X dim) (simplices X (dim + 1)) read.marks filled.None x
-          → Put before 0 (refusalRecord noFilling 0) after count → Answers j before after count
+          → Put before 0 (refusal_record no_filling 0) after count → Answers j before after count
       answers-unfilled x e says put =
           let none = subst₂ (λ (r c : List Simplex). FillSays r c read.marks filled.None x) same_rows same-cols says in
           record {
-            answer = refusalRecord noFilling 0;
+            answer = refusal_record no_filling 0;
             is = asks-fill _
-                (unfilled (sym same-rim ∙ told.is-closed e) (λ other f. none other (subst (λ A. Fills (matrix j) (length (cols j)) A other) (sym same_asked) f)) refl);
+                (unfilled (sym same-rim ∙ told.is_closed e) (λ other f. none other (subst (λ A. Fills (matrix j) (length (cols j)) A other) (sym same_asked) f)) refl);
             put = put;
           }
 
-  pub answers-class : {before after : List ℕ} {count : ℕ} {l : List Simplex} (x : Chain) → questionOf read.head.question ≡ class → l ≡ simplices X dim
-      → ClassTold (simplices X dim) (simplices X (dim + 1)) read.marks x → Put before 0 (chainBytes read.head.d x l) after count
+  pub answers-class : {before after : List ℕ} {count : ℕ} {l : List Simplex} (x : Chain) → question_of read.head.question ≡ class → l ≡ simplices X dim
+      → ClassTold (simplices X dim) (simplices X (dim + 1)) read.marks x → Put before 0 (chain_bytes read.head.d x l) after count
       → Answers j before after count
   answers-class {before} {after} {count} x q same told put =
       let known = subst₂ (λ (r c : List Simplex). ClassTold r c read.marks x) same_rows same-cols told in
       let bytes =
-      ap (chainBytes read.head.d x) same
+      ap (chain_bytes read.head.d x) same
       ∙ chain-bytes X k.held.sound dim read.head.d x
-      ∙ ap (λ (m : List Simplex). chainRecord read.head.d m x) same_rows in
+      ∙ ap (λ (m : List Simplex). chain_record read.head.d m x) same_rows in
       record {
-        answer = chainRecord j.d (rows j) x;
-        is = subst (λ y. AnswerTo j y (chainRecord j.d (rows j) x)) (sym q)
+        answer = chain_record j.d (rows j) x;
+        is = subst (λ y. AnswerTo j y (chain_record j.d (rows j) x)) (sym q)
             (record { chain = x; smallest = subst (λ A. SmallestInClass (matrix j) (length (cols j)) (length (rows j)) A x) same_asked known; is = refl });
         put = subst (λ b. Put before 0 b after count) bytes put;
       }
 
 -- A FILE is answered by the refusal of its reading, or as the job that was read is.
 module _ {b before after : List ℕ} {count : ℕ} where
-  pub file-refused : {n p : ℕ} → reading small b ≡ refused n p → Put before 0 (refusalRecord n p) after count → AnswersFile b before after count
-  file-refused {n} {p} e put = record { answer = refusalRecord n p; is = subst (λ (x : Reading Job). Answered x (refusalRecord n p)) (sym e) refl; put = put }
+  pub file-refused : {n p : ℕ} → reading small b ≡ refused n p → Put before 0 (refusal_record n p) after count → AnswersFile b before after count
+  file-refused {n} {p} e put = record { answer = refusal_record n p; is = subst (λ (x : Reading Job). Answered x (refusal_record n p)) (sym e) refl; put = put }
 
-  pub file-answered : {eKeys tKeys sKeys tSides sSides : List ℕ} {r : NumbersRead} → Told (reading small b) eKeys tKeys sKeys tSides sSides r → r.verdict ≡ Fine
-      → ((k : Asking r eKeys tKeys sKeys tSides sSides) → Answers (jobIn r eKeys tKeys sKeys k.set) before after count)
+  pub file-answered : {e_keys t_keys s_keys t_sides s_sides : List ℕ} {r : NumbersRead} → Told (reading small b) e_keys t_keys s_keys t_sides s_sides r → r.verdict ≡ Fine
+      → ((k : Asking r e_keys t_keys s_keys t_sides s_sides) → Answers (job_in r e_keys t_keys s_keys k.set) before after count)
       → AnswersFile b before after count
-  unfolding told-asking
+  unfolding told_asking
   file-answered {r = r} told fine answers =
-      let a = answers (told-asking b r told fine) in
+      let a = answers (told_asking b r told fine) in
       record { answer = a.answer; is = subst (λ (x : Reading Job). Answered x a.answer) (sym (told-accepted b r told fine)) a.is; put = a.put }
 
 -- THE QUESTION of a head, and the dimension of A.
-pub asks-filling : (q : ℕ) → q ≡ 1 → questionOf q ≡ fill
+pub asks-filling : (q : ℕ) → q ≡ 1 → question_of q ≡ fill
 asks-filling q e = rw (eq-eqb q 1 e)
 
-pub asks-class : (q : ℕ) → (q ≡ 1 → ⊥) → questionOf q ≡ class
+pub asks-class : (q : ℕ) → (q ≡ 1 → ⊥) → question_of q ≡ class
 asks-class q n = rw (ne_eqb q 1 n)
 
-pub dimension-few : (q : Question) (d : ℕ) → dimensionFits q d ≡ true → chainDimension q d ≤ 2
+pub dimension-few : (q : Question) (d : ℕ) → dimension_fits q d ≡ true → chain_dimension q d ≤ 2
 dimension-few fill d e = few d (leb-true d 3 (and-true (leb 1 d) (leb d 3) e).1)
   where
     few : (d : ℕ) → d ≤ 3 → pred d ≤ 2

@@ -17,5 +17,5 @@ pub record AnswersFile (b before after : List ℕ) (count : ℕ) : Type 0 where
   pub put : Put before 0 answer after count
 
 -- of the numbers, or the sides, of edges, triangles and tetrahedra, those of a dimension
-abbrev pub ofDimension : ℕ → List ℕ → List ℕ → List ℕ → List ℕ
-ofDimension dim edges triangles tetrahedra = cond (eqb dim 2) triangles (cond (eqb dim 3) tetrahedra edges)
+abbrev pub of_dimension : ℕ → List ℕ → List ℕ → List ℕ → List ℕ
+of_dimension dim edges triangles tetrahedra = cond (eqb dim 2) triangles (cond (eqb dim 3) tetrahedra edges)

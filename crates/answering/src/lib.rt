@@ -1,13 +1,13 @@
 // Answers a job: it is read into lent arrays, the sides of the asked dimension go to the solver, and its chain or its refusal
 // into the output.
 ghost use Rattle.std.specs.Prelude.{◌≡◌, ◌≤◌, length};
-ghost use Rattle.format.specs.Simplex.{vertexList, lower, simplices};
-ghost use Rattle.format.specs.Reading.{fill, class, chainDimension, questionOf};
-ghost use Rattle.lookup.specs.Numbered.{simplicesIn};
-ghost use Rattle.lent_lists.specs.Held.{complexIn, Held};
-ghost use Rattle.jobs.specs.Meaning.{FileRoom, Asking, jobIn};
+ghost use Rattle.format.specs.Simplex.{vertex_list, lower, simplices};
+ghost use Rattle.format.specs.Reading.{fill, class, chain_dimension, question_of};
+ghost use Rattle.lookup.specs.Numbered.{simplices_in};
+ghost use Rattle.lent_lists.specs.Held.{complex_in, Held};
+ghost use Rattle.jobs.specs.Meaning.{FileRoom, Asking, job_in};
 ghost use Rattle.solver.specs.Solved.{RimTold};
-ghost use Rattle.answering.specs.Meaning.{Answers, AnswersFile, ofDimension};
+ghost use Rattle.answering.specs.Meaning.{Answers, AnswersFile, of_dimension};
 
 use jobs::NumbersRead;
 use lists::{SimplexList, Verdict};
@@ -20,7 +20,7 @@ fn numbers_of<'a>(
     triangles: &'a [u64],
     tetrahedra: &'a [u64],
 ) -> &'a [u64]
-    ensures { result.now ≡ ofDimension dim edges.now triangles.now tetrahedra.now }
+    ensures { result.now ≡ of_dimension dim edges.now triangles.now tetrahedra.now }
 {
     if dim == 2 {
         return triangles;
@@ -34,7 +34,7 @@ fn numbers_of<'a>(
 // The numbers of the vertices 0 to v - 1: "vertices rank by number", and each is its own.
 fn number_vertices(keys: &mut [u64], v: usize)
     requires { (v ≤ length keys.old) × (v ≤ 65536) }
-    ensures { simplicesIn 1 keys.new v ≡ vertexList v }
+    ensures { simplices_in 1 keys.new v ≡ vertex_list v }
 {
     let mut i = 0;
     while i < v {
@@ -55,7 +55,7 @@ fn rim_closed<'a>(
 ) -> bool
     requires asking { Asking read e_keys.now t_keys.now s_keys.now t_sides.now s_sides.now }
     requires dim_bound { dim ≤ 2 }
-    ensures { RimTold (lower (complexIn read.head.v read.counts e_keys.now t_keys.now s_keys.now) dim) (simplices (complexIn read.head.v read.counts e_keys.now t_keys.now s_keys.now) dim) read.marks result }
+    ensures { RimTold (lower (complex_in read.head.v read.counts e_keys.now t_keys.now s_keys.now) dim) (simplices (complex_in read.head.v read.counts e_keys.now t_keys.now s_keys.now) dim) read.marks result }
 {
     if dim == 0 {
         return true;
@@ -85,11 +85,11 @@ fn answer_fill<'a>(
     s_sides: &'a [u64],
 ) -> usize
     requires asking { Asking read e_keys.now t_keys.now s_keys.now t_sides.now s_sides.now }
-    requires dim_value { dim ≡ chainDimension (questionOf read.head.question) read.head.d }
-    requires question_value { questionOf read.head.question ≡ fill }
+    requires dim_value { dim ≡ chain_dimension (question_of read.head.question) read.head.d }
+    requires question_value { question_of read.head.question ≡ fill }
     requires in_bounds { 2055 ≤ length out.old }
     requires in_bounds_2 { 65536 ≤ length work.old }
-    ensures { (k : Asking read e_keys.now t_keys.now s_keys.now t_sides.now s_sides.now) → Answers (jobIn read e_keys.now t_keys.now s_keys.now k.set) out.old out.new result }
+    ensures { (k : Asking read e_keys.now t_keys.now s_keys.now t_sides.now s_sides.now) → Answers (job_in read e_keys.now t_keys.now s_keys.now k.set) out.old out.new result }
 {
     let head = read.head;
     let counts = read.counts;
@@ -128,11 +128,11 @@ fn answer_class<'a>(
     s_sides: &'a [u64],
 ) -> usize
     requires asking { Asking read e_keys.now t_keys.now s_keys.now t_sides.now s_sides.now }
-    requires dim_value { dim ≡ chainDimension (questionOf read.head.question) read.head.d }
-    requires question_value { questionOf read.head.question ≡ class }
+    requires dim_value { dim ≡ chain_dimension (question_of read.head.question) read.head.d }
+    requires question_value { question_of read.head.question ≡ class }
     requires in_bounds { 2055 ≤ length out.old }
     requires in_bounds_2 { 65536 ≤ length work.old }
-    ensures { (k : Asking read e_keys.now t_keys.now s_keys.now t_sides.now s_sides.now) → Answers (jobIn read e_keys.now t_keys.now s_keys.now k.set) out.old out.new result }
+    ensures { (k : Asking read e_keys.now t_keys.now s_keys.now t_sides.now s_sides.now) → Answers (job_in read e_keys.now t_keys.now s_keys.now k.set) out.old out.new result }
 {
     let head = read.head;
     let counts = read.counts;
@@ -167,7 +167,7 @@ fn answer_job<'a>(
     requires asking { Asking read e_keys.now t_keys.now s_keys.now t_sides.now s_sides.now }
     requires in_bounds { 2055 ≤ length out.old }
     requires in_bounds_2 { 65536 ≤ length work.old }
-    ensures { (k : Asking read e_keys.now t_keys.now s_keys.now t_sides.now s_sides.now) → Answers (jobIn read e_keys.now t_keys.now s_keys.now k.set) out.old out.new result }
+    ensures { (k : Asking read e_keys.now t_keys.now s_keys.now t_sides.now s_sides.now) → Answers (job_in read e_keys.now t_keys.now s_keys.now k.set) out.old out.new result }
 {
     let head = read.head;
     let dim = jobs::chain_dimension(head);

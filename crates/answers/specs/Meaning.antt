@@ -2,17 +2,17 @@
 use Rattle.std.specs.Prelude.{ℕ, Bool, cond, List, [], ◌∷◌}
 use Rattle.chains.specs.Chain.{Chain}
 use Rattle.format.specs.Simplex.{Simplex}
-use Rattle.format.specs.Numbers.{answerKind}
-use Rattle.format.specs.Answer.{members, recordOf}
-use Rattle.writer.specs.Meaning.{listBytes, simplexBytes}
+use Rattle.format.specs.Numbers.{answer_kind}
+use Rattle.format.specs.Answer.{members, record_of}
+use Rattle.writer.specs.Meaning.{list_bytes, simplex_bytes}
 
-abbrev pub memberBytes : Chain → List Simplex → List ℕ
-memberBytes c l = listBytes (members c l)
+abbrev pub member_bytes : Chain → List Simplex → List ℕ
+member_bytes c l = list_bytes (members c l)
 
 -- the bytes of one simplex, where it is a member
-abbrev pub memberPiece : Simplex → Bool → List ℕ
-memberPiece s on = cond on (simplexBytes s) []
+abbrev pub member_piece : Simplex → Bool → List ℕ
+member_piece s on = cond on (simplex_bytes s) []
 
 -- the record of a chain, as it is put out
-abbrev pub chainBytes : ℕ → Chain → List Simplex → List ℕ
-chainBytes d c l = recordOf answerKind (d ∷ memberBytes c l)
+abbrev pub chain_bytes : ℕ → Chain → List Simplex → List ℕ
+chain_bytes d c l = record_of answer_kind (d ∷ member_bytes c l)

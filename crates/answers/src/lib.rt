@@ -1,11 +1,11 @@
 // Answer records: a refusal, or a chain's members in rising rank.
 ghost use Rattle.std.specs.Prelude.{◌≡◌, ◌+◌, ◌*◌, ◌≤◌, ◌<◌, length, set};
-ghost use Rattle.format.specs.Answer.{refusalRecord};
-ghost use Rattle.lists.specs.Meaning.{verticesOf};
-ghost use Rattle.lookup.specs.Numbered.{simplicesIn};
-ghost use Rattle.columns.specs.Column.{chainOf};
-ghost use Rattle.writer.specs.Meaning.{Put, simplexBytes};
-ghost use Rattle.answers.specs.Meaning.{memberBytes, memberPiece, chainBytes};
+ghost use Rattle.format.specs.Answer.{refusal_record};
+ghost use Rattle.lists.specs.Meaning.{vertices_of};
+ghost use Rattle.lookup.specs.Numbered.{simplices_in};
+ghost use Rattle.columns.specs.Column.{chain_of};
+ghost use Rattle.writer.specs.Meaning.{Put, simplex_bytes};
+ghost use Rattle.answers.specs.Meaning.{member_bytes, member_piece, chain_bytes};
 
 use lists::Simplex;
 use records::Header;
@@ -13,7 +13,7 @@ use records::Header;
 // A refusal's record, twelve bytes: the number in two, the place in four.
 pub fn put_refusal(out: &mut [u8], number: u16, place: usize) -> usize
     requires { 12 ≤ length out.old }
-    ensures { Put out.old 0 (refusalRecord number place) out.new result }
+    ensures { Put out.old 0 (refusal_record number place) out.new result }
 {
     writer::put_header(out, 0, Header::REFUSAL as usize, 6);
     writer::put_u16(out, Header::BYTES, number as usize);
@@ -24,8 +24,8 @@ pub fn put_refusal(out: &mut [u8], number: u16, place: usize) -> usize
 
 // A simplex, where it is a member; the place behind it.
 fn put_member(out: &mut [u8], at: usize, s: Simplex, on: bool) -> usize
-    requires { at + length (memberPiece (verticesOf s) on) ≤ length out.old }
-    ensures { Put out.old at (memberPiece (verticesOf s) on) out.new result }
+    requires { at + length (member_piece (vertices_of s) on) ≤ length out.old }
+    ensures { Put out.old at (member_piece (vertices_of s) on) out.new result }
 {
     if on {
         writer::put_simplex(out, at, s);
@@ -46,9 +46,9 @@ pub fn put_members(
 ) -> usize
     requires le_size { (1 ≤ size) × (size ≤ 4) }
     requires n_in_bounds { n ≤ length keys.now }
-    requires n_in_bounds_2 { at + length (memberBytes (chainOf col.now) (simplicesIn size keys.now n)) ≤ length out.old }
+    requires n_in_bounds_2 { at + length (member_bytes (chain_of col.now) (simplices_in size keys.now n)) ≤ length out.old }
     requires n_bound { n ≤ 8 * length col.now }
-    ensures { Put out.old at (memberBytes (chainOf col.now) (simplicesIn size keys.now n)) out.new result }
+    ensures { Put out.old at (member_bytes (chain_of col.now) (simplices_in size keys.now n)) out.new result }
 {
     let mut next = at;
     let mut i = 0;
@@ -72,9 +72,9 @@ fn put_byte(out: &mut [u8], at: usize, b: u8)
 pub fn put_chain(out: &mut [u8], d: u8, keys: &[u64], n: usize, size: usize, col: &[u8]) -> usize
     requires le_size { (1 ≤ size) × (size ≤ 4) }
     requires n_in_bounds { n ≤ length keys.now }
-    requires n_in_bounds_2 { 7 + length (memberBytes (chainOf col.now) (simplicesIn size keys.now n)) ≤ length out.old }
+    requires n_in_bounds_2 { 7 + length (member_bytes (chain_of col.now) (simplices_in size keys.now n)) ≤ length out.old }
     requires n_bound { n ≤ 8 * length col.now }
-    ensures { Put out.old 0 (chainBytes d (chainOf col.now) (simplicesIn size keys.now n)) out.new result }
+    ensures { Put out.old 0 (chain_bytes d (chain_of col.now) (simplices_in size keys.now n)) out.new result }
 {
     let next = put_members(out, 7, keys, n, size, col);
     put_byte(out, Header::BYTES, d);

@@ -7,10 +7,10 @@ use Rattle.format.specs.Simplex.{same}
 use Rattle.format.specs.Reading.{reading}
 use Rattle.format.specs.Answer.{Answered}
 use Rattle.format.specs.Outcome.{answer_of}
-use Rattle.format.specs.Worked.{readsTo}
+use Rattle.format.specs.Worked.{reads_to}
 use Rattle.format.specs.Unique.{answered-unique}
 use Rattle.format.specs.Listed.{same-equal}
-use Rattle.bench_table.specs.Jobs.{Entry, benchJobs}
+use Rattle.bench_table.specs.Jobs.{Entry, bench_jobs}
 
 -- what is to be shown of an entry
 pub record Right (e : Entry) : Type 0 where
@@ -34,24 +34,24 @@ tested e t =
     is_true false t = absurd t
 
 -- the same of every entry of a table
-unfoldable pub testAll : List Entry → Bool
-testAll [] = true
-testAll (e ∷ l) = test e && testAll l
+unfoldable pub test_all : List Entry → Bool
+test_all [] = true
+test_all (e ∷ l) = test e && test_all l
 
 abbrev pub Every : (Entry → Type 0) → List Entry → Type 0
 Every P [] = Unit {0}
 Every P (e ∷ l) = P e × Every P l
 
-pub every : (l : List Entry) → T (testAll l) → Every Right l
-unfolding testAll
+pub every : (l : List Entry) → T (test_all l) → Every Right l
+unfolding test_all
 every [] t = tt
 every (e ∷ l) t = both (test e) (tested e) t (every l)
   where
-    both : (b : Bool) → (T b → Right e) → T (b && testAll l) → (T (testAll l) → Every Right l) → Right e × Every Right l
+    both : (b : Bool) → (T b → Right e) → T (b && test_all l) → (T (test_all l) → Every Right l) → Right e × Every Right l
     both true here t rest = (here tt, rest t)
     both false here t rest = absurd t
 
 -- P1 TO P12, by one computation.
-pub table : Every Right benchJobs
-unfolding testAll test same readsTo answer_of
-table = every benchJobs tt
+pub table : Every Right bench_jobs
+unfolding test_all test same reads_to answer_of
+table = every bench_jobs tt

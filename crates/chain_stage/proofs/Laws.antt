@@ -8,9 +8,9 @@ use lib.ListN.{length, get_or, take, length-take, length-map, get_or-map}
 use lib.Seq.{ext_get_or, get_or-take}
 use lib.Dec.{eqb, leb}
 use borrow.Author.Tests.{eqb-true, eq-eqb, ne_eqb, le-leb, lt-leb}
-use Rattle.format.specs.Numbers.{small, cut, wrongKind, shape, headerBytes, chainKind, walkKind}
+use Rattle.format.specs.Numbers.{small, cut, wrong_kind, shape, header_bytes, chain_kind, walk_kind}
 use Rattle.format.specs.Simplex.{Simplex, SimplexSet, Complex, simplices, all_below}
-use Rattle.format.specs.Reading.{Reading, accepted, refused, ◌andThen◌, Header, ended, broken, whole, header_at, payloadAt, Record, Chosen, recordFrom, recordAt, mayAsk, chainFits, chosenBy, risingBelow, positionsOf, named, readSteps, steps, walkChain, readChain}
+use Rattle.format.specs.Reading.{Reading, accepted, refused, ◌and_then◌, Header, ended, broken, whole, header_at, payload_at, Record, Chosen, record_from, record_at, may_ask, chain_fits, chosen_by, rising_below, positions_of, named, read_steps, steps, walk_chain, read_chain}
 use Rattle.format.specs.Opened.{whole-inside, payload-long}
 use Rattle.format.specs.Marks.{Once, among, named-marks}
 use Rattle.lists.specs.Verdicts.{reading_of, reading-both}
@@ -21,71 +21,71 @@ use Rattle.lists.specs.declared.Marks.{Marks}
 use Rattle.chosen.specs.Meaning.{PositionsRead, WalkRead}
 use Rattle.chosen.specs.declared.ChainRead.{ChainRead}
 use Rattle.complexes.specs.Meaning.{Marked}
-use Rattle.chain_stage.specs.Meaning.{recordOfKind, ChainStageRead}
+use Rattle.chain_stage.specs.Meaning.{record_of_kind, ChainStageRead}
 
 -- OPENING, case by case of the header, the kind and the length.
 module _ (b : List ℕ) (at dim : ℕ) where
   abbrev pub asked : Reading Record
-  asked = recordAt (mayAsk dim) (chainFits small) b at
+  asked = record_at (may_ask dim) (chain_fits small) b at
 
-  pub asked-ended : header_at b at ≡ ended → asked ≡ refused wrongKind at
-  unfolding recordFrom
+  pub asked-ended : header_at b at ≡ ended → asked ≡ refused wrong_kind at
+  unfolding record_from
   asked-ended e = rw e
 
   pub asked-broken : header_at b at ≡ broken → asked ≡ refused cut at
-  unfolding recordFrom
+  unfolding record_from
   asked-broken e = rw e
 
   module _ (kind size : ℕ) (is : header_at b at ≡ whole kind size) where
-    long : length (payloadAt b at size) ≡ size
+    long : length (payload_at b at size) ≡ size
     long = payload-long b at size (whole-inside b at kind size is)
 
     pub asked-uneven : kind ≡ 5 → (size % 2 ≡ 0 → ⊥) → asked ≡ refused shape at
-    unfolding recordFrom
+    unfolding record_from
     asked-uneven k n = rw (is, k, long, ne_eqb (size % 2) 0 n)
 
     pub asked-long : kind ≡ 5 → 1024 < size → asked ≡ refused shape at
-    unfolding recordFrom
+    unfolding record_from
     asked-long k h = rw (is, k, long, lt-leb size 1024 h, and-false)
 
-    pub asked-positions : kind ≡ 5 → size % 2 ≡ 0 → size ≤ 1024 → asked ≡ accepted (recordOfKind chainKind b at size)
-    unfolding recordFrom
+    pub asked-positions : kind ≡ 5 → size % 2 ≡ 0 → size ≤ 1024 → asked ≡ accepted (record_of_kind chain_kind b at size)
+    unfolding record_from
     asked-positions k e h = rw (is, k, long, eq-eqb (size % 2) 0 e, le-leb size 1024 h)
 
-    pub asked-other : (kind ≡ 5 → ⊥) → (kind ≡ 6 → ⊥) → asked ≡ refused wrongKind at
-    unfolding recordFrom
+    pub asked-other : (kind ≡ 5 → ⊥) → (kind ≡ 6 → ⊥) → asked ≡ refused wrong_kind at
+    unfolding record_from
     asked-other n m = rw (is, ne_eqb kind 5 n, ne_eqb kind 6 m)
 
-    pub asked-flat : (kind ≡ 5 → ⊥) → (dim ≡ 1 → ⊥) → asked ≡ refused wrongKind at
-    unfolding recordFrom
+    pub asked-flat : (kind ≡ 5 → ⊥) → (dim ≡ 1 → ⊥) → asked ≡ refused wrong_kind at
+    unfolding record_from
     asked-flat n m = rw (is, ne_eqb kind 5 n, ne_eqb dim 1 m, and-false)
 
     pub asked-far : (kind ≡ 5 → ⊥) → kind ≡ 6 → dim ≡ 1 → 1024 < size → asked ≡ refused shape at
-    unfolding recordFrom
+    unfolding record_from
     asked-far n k d h = rw (is, k, long, eq-eqb dim 1 d, lt-leb size 1024 h)
 
-    pub asked-walk : (kind ≡ 5 → ⊥) → kind ≡ 6 → dim ≡ 1 → size ≤ 1024 → asked ≡ accepted (recordOfKind walkKind b at size)
-    unfolding recordFrom
+    pub asked-walk : (kind ≡ 5 → ⊥) → kind ≡ 6 → dim ≡ 1 → size ≤ 1024 → asked ≡ accepted (record_of_kind walk_kind b at size)
+    unfolding record_from
     asked-walk n k d h = rw (is, k, long, eq-eqb dim 1 d, le-leb size 1024 h)
 
 -- READING, once the record is opened.
 module _ (b : List ℕ) (at dim : ℕ) (X : Complex) where
-  pub chain-refused : (number : ℕ) → asked b at dim ≡ refused number at → readChain small b at dim X ≡ refused number at
-  unfolding readChain
+  pub chain-refused : (number : ℕ) → asked b at dim ≡ refused number at → read_chain small b at dim X ≡ refused number at
+  unfolding read_chain
   chain-refused number e = rw e
 
   module _ (size : ℕ) (verdict : Verdict) where
-    pub chain-positions : asked b at dim ≡ accepted (recordOfKind chainKind b at size) → (ps : List ℕ) → ps ≡ positionsOf (payloadAt b at size) → risingBelow (length (simplices X dim)) (at + headerBytes) 0 ps ≡ reading_of verdict ps
-        → readChain small b at dim X ≡ reading_of verdict (record { chain = named (simplices X dim) ps; next = at + headerBytes + size })
-    unfolding readChain chosenBy
+    pub chain-positions : asked b at dim ≡ accepted (record_of_kind chain_kind b at size) → (ps : List ℕ) → ps ≡ positions_of (payload_at b at size) → rising_below (length (simplices X dim)) (at + header_bytes) 0 ps ≡ reading_of verdict ps
+        → read_chain small b at dim X ≡ reading_of verdict (record { chain = named (simplices X dim) ps; next = at + header_bytes + size })
+    unfolding read_chain chosen_by
     chain-positions e ps is r =
-        rw (e, ← is, r) (reading-both verdict ps (named (simplices X dim)) (λ A. record { chain = A; next = at + headerBytes + size }))
+        rw (e, ← is, r) (reading-both verdict ps (named (simplices X dim)) (λ A. record { chain = A; next = at + header_bytes + size }))
 
-    pub chain-walk : asked b at dim ≡ accepted (recordOfKind walkKind b at size) → (walked : List Simplex) → walked ≡ steps (payloadAt b at size) → readSteps X.edges (at + headerBytes) walked ≡ reading_of verdict walked
-        → readChain small b at dim X ≡ reading_of verdict (record { chain = walkChain walked; next = at + headerBytes + size })
-    unfolding readChain chosenBy
+    pub chain-walk : asked b at dim ≡ accepted (record_of_kind walk_kind b at size) → (walked : List Simplex) → walked ≡ steps (payload_at b at size) → read_steps X.edges (at + header_bytes) walked ≡ reading_of verdict walked
+        → read_chain small b at dim X ≡ reading_of verdict (record { chain = walk_chain walked; next = at + header_bytes + size })
+    unfolding read_chain chosen_by
     chain-walk e walked is r =
-        rw (e, ← is, r) (reading-both verdict walked walkChain (λ A. record { chain = A; next = at + headerBytes + size }))
+        rw (e, ← is, r) (reading-both verdict walked walk_chain (λ A. record { chain = A; next = at + header_bytes + size }))
 
 -- MARKS place by place are the marks of a set.
 any-default : {A : Type 0} (l : List A) (i : ℕ) (d e : A) → i < length l → get_or l i d ≡ get_or l i e
@@ -103,9 +103,9 @@ marked-by-place on l A room each =
     }
 
 -- a walk stands only where A has dimension 1
-walk-flat : (b : List ℕ) (at dim : ℕ) (size : ℕ) → asked b at dim ≡ accepted (recordOfKind walkKind b at size) → dim ≡ 1
+walk-flat : (b : List ℕ) (at dim : ℕ) (size : ℕ) → asked b at dim ≡ accepted (record_of_kind walk_kind b at size) → dim ≡ 1
 walk-flat b at dim size e =
-    eqb-true dim 1 (record-fits (mayAsk dim) (chainFits small) b at (header_at b at) (recordOfKind walkKind b at size) e).0
+    eqb-true dim 1 (record-fits (may_ask dim) (chain_fits small) b at (header_at b at) (record_of_kind walk_kind b at size) e).0
 
 -- THE STAGE'S OUTCOME, refused or read, over whatever complex has the simplices counted and the edges entered.
 module _ (b : List ℕ) (at dim : ℕ) (X : Complex) where
@@ -117,27 +117,27 @@ module _ (b : List ℕ) (at dim : ℕ) (X : Complex) where
         marks = λ f. let z : ◌≡◌ {A = ℕ} 0 1 = cc in absurd (omega arith);
       }
 
-  module _ (size : ℕ) (p : List ℕ) (r : ChainRead) (is : p ≡ payloadAt b at size) (full : length r.on ≡ 512) where
-    pub stage-positions : {count : ℕ} → asked b at dim ≡ accepted (recordOfKind chainKind b at size) → length (simplices X dim) ≡ count → count ≤ 512 → PositionsRead p (at + headerBytes) count r
-        → ChainStageRead b at dim X (record { verdict = r.verdict; marks = record { on = r.on }; next = at + headerBytes + size })
+  module _ (size : ℕ) (p : List ℕ) (r : ChainRead) (is : p ≡ payload_at b at size) (full : length r.on ≡ 512) where
+    pub stage-positions : {count : ℕ} → asked b at dim ≡ accepted (record_of_kind chain_kind b at size) → length (simplices X dim) ≡ count → count ≤ 512 → PositionsRead p (at + header_bytes) count r
+        → ChainStageRead b at dim X (record { verdict = r.verdict; marks = record { on = r.on }; next = at + header_bytes + size })
     stage-positions e n few read =
         record {
-          set = named (simplices X dim) (positionsOf p);
-          reading = chain-positions b at dim X size r.verdict e (positionsOf p) (ap positionsOf is) (ap (λ k. risingBelow k (at + headerBytes) 0 (positionsOf p)) n ∙ read.verdict);
+          set = named (simplices X dim) (positions_of p);
+          reading = chain-positions b at dim X size r.verdict e (positions_of p) (ap positions_of is) (ap (λ k. rising_below k (at + header_bytes) 0 (positions_of p)) n ∙ read.verdict);
           marks = λ fine once.
-              marked-by-place r.on (simplices X dim) (named (simplices X dim) (positionsOf p)) (omega arith)
-              (λ i h. read.marks fine i ∙ sym (named-marks (simplices X dim) once (positionsOf p) (ap (λ k. all_below k (positionsOf p)) n ∙ read.below fine) i h));
+              marked-by-place r.on (simplices X dim) (named (simplices X dim) (positions_of p)) (omega arith)
+              (λ i h. read.marks fine i ∙ sym (named-marks (simplices X dim) once (positions_of p) (ap (λ k. all_below k (positions_of p)) n ∙ read.below fine) i h));
         }
 
-    pub stage-walk : {edges : List Simplex} → asked b at dim ≡ accepted (recordOfKind walkKind b at size) → X.edges ≡ edges → length edges ≤ 512 → WalkRead p (at + headerBytes) edges r
-        → ChainStageRead b at dim X (record { verdict = r.verdict; marks = record { on = r.on }; next = at + headerBytes + size })
+    pub stage-walk : {edges : List Simplex} → asked b at dim ≡ accepted (record_of_kind walk_kind b at size) → X.edges ≡ edges → length edges ≤ 512 → WalkRead p (at + header_bytes) edges r
+        → ChainStageRead b at dim X (record { verdict = r.verdict; marks = record { on = r.on }; next = at + header_bytes + size })
     unfolding simplices
     stage-walk {edges} e own few read =
         let flat : simplices X dim ≡ edges = ap (simplices X) (walk-flat b at dim size e) ∙ own in
         record {
-          set = walkChain (steps p);
-          reading = chain-walk b at dim X size r.verdict e (steps p) (ap steps is) (ap (λ l. readSteps l (at + headerBytes) (steps p)) own ∙ read.verdict);
+          set = walk_chain (steps p);
+          reading = chain-walk b at dim X size r.verdict e (steps p) (ap steps is) (ap (λ l. read_steps l (at + header_bytes) (steps p)) own ∙ read.verdict);
           marks = λ fine once.
-              subst (λ l. Marked r.on l (walkChain (steps p))) (sym flat)
-              (marked-by-place r.on edges (walkChain (steps p)) (omega arith) (read.marks fine (subst Once flat once)));
+              subst (λ l. Marked r.on l (walk_chain (steps p))) (sym flat)
+              (marked-by-place r.on edges (walk_chain (steps p)) (omega arith) (read.marks fine (subst Once flat once)));
         }

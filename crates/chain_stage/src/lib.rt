@@ -3,10 +3,10 @@ ghost use Rattle.std.specs.Prelude.{◌≡◌, ◌≤◌, length};
 ghost use Rattle.format.specs.Numbers.{small};
 ghost use Rattle.format.specs.Simplex.{simplices};
 ghost use Rattle.format.specs.Simplex as format;
-ghost use Rattle.format.specs.Reading.{recordAt, mayAsk, chainFits};
+ghost use Rattle.format.specs.Reading.{record_at, may_ask, chain_fits};
 ghost use Rattle.lookup.specs.Indexed.{Proper, Indexed};
-ghost use Rattle.lookup.specs.Numbered.{simplicesIn};
-ghost use Rattle.chain_stage.specs.Meaning.{chainOpened, ChainStageRead};
+ghost use Rattle.lookup.specs.Numbered.{simplices_in};
+ghost use Rattle.chain_stage.specs.Meaning.{chain_opened, ChainStageRead};
 
 use chosen::ChainRead;
 use lists::{Marks, Verdict};
@@ -22,7 +22,7 @@ pub enum ChainOpened {
 
 // Opens the record behind the lists: 2 cut, 3 kind (a walk only where A has dimension 1), 4 shape.
 pub fn open_chain(job: &[u8], at: usize, dim: usize) -> ChainOpened
-    ensures { chainOpened job.now at result ≡ recordAt (mayAsk dim) (chainFits small) job.now at }
+    ensures { chain_opened job.now at result ≡ record_at (may_ask dim) (chain_fits small) job.now at }
 {
     let header = records::header_at(job, at);
     match header {
@@ -74,9 +74,9 @@ pub fn read_chain(
 ) -> ChainStage
     requires job_len_bound { length job.now ≤ 6690 }
     requires count_bound { (count ≤ 512) × (edges ≤ 512) }
-    requires proper { Proper 2 (simplicesIn 2 keys.now edges) }
-    requires indexed { Indexed (simplicesIn 2 keys.now edges) keys.now first.now next.now edges }
-    ensures { (X : format.Complex) → X.edges ≡ simplicesIn 2 keys.now edges → length (simplices X dim) ≡ count → ChainStageRead job.now at dim X result }
+    requires proper { Proper 2 (simplices_in 2 keys.now edges) }
+    requires indexed { Indexed (simplices_in 2 keys.now edges) keys.now first.now next.now edges }
+    ensures { (X : format.Complex) → X.edges ≡ simplices_in 2 keys.now edges → length (simplices X dim) ≡ count → ChainStageRead job.now at dim X result }
 {
     let opened = open_chain(job, at, dim);
     match opened {

@@ -47,7 +47,7 @@ pub record Top (c : Chain) (i : ℕ) : Type 0 where
 pub record Smaller (P Q : Chain) : Type 0 where
   pub rank : ℕ
   pub top : Top (P ⊕ Q) rank
-  pub inQ : Q rank ≡ true
+  pub in_q : Q rank ≡ true
 
 -- the smallest chain with a property: it has it, and every other chain that has it is larger
 pub record Smallest (Has : Chain → Type 0) (c : Chain) : Type 0 where
@@ -63,7 +63,7 @@ pub record Fills (D : ℕ → Chain) (n : ℕ) (A c : Chain) : Type 0 where
 pub record InClass (D : ℕ → Chain) (n m : ℕ) (A G : Chain) : Type 0 where
   pub under : Under m G
   pub by : Chain
-  pub by-under : Under n by
+  pub by_under : Under n by
   pub bounds : G ⊕ A ≡ boundary D n by
 
 abbrev pub SmallestFilling : (ℕ → Chain) → ℕ → Chain → Chain → Type 0

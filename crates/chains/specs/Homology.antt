@@ -25,7 +25,7 @@ pub record Cycle (D : ℕ → Chain) (n : ℕ) (c : Chain) : Type 0 where
 -- "the boundary of some (d+1)-chain": b is the boundary of a chain of the n columns
 pub record Bounds (D : ℕ → Chain) (n : ℕ) (b : Chain) : Type 0 where
   pub by : Chain
-  pub by-under : Under n by
+  pub by_under : Under n by
   pub bounds : boundary D n by ≡ b
 
 module _ (D : ℕ → Chain) (n : ℕ) where
@@ -84,11 +84,11 @@ module _ (D : ℕ → Chain) (n m : ℕ) (columns : (i : ℕ) → i < n → Unde
   pub boundaries-group : Group (Bounds D n) m
   boundaries-group =
       record {
-        none = record { by = empty; by-under = under-empty n; bounds = boundary-empty D n };
+        none = record { by = empty; by_under = under-empty n; bounds = boundary-empty D n };
         sum = λ a b ba bb.
             record {
               by = ba.by ⊕ bb.by;
-              by-under = under-sum n ba.by bb.by ba.by-under bb.by-under;
+              by_under = under-sum n ba.by bb.by ba.by_under bb.by_under;
               bounds = boundary-sum D n ba.by bb.by ∙ ap₂ ◌⊕◌ ba.bounds bb.bounds;
             };
         under = λ k bk. subst (Under m) bk.bounds (boundary-under D n m bk.by columns);
@@ -101,7 +101,7 @@ module _ (D : ℕ → Chain) (n m : ℕ) (columns : (i : ℕ) → i < n → Unde
         apart = λ c d ic id.
             record {
               by = ic.by ⊕ id.by;
-              by-under = under-sum n ic.by id.by ic.by-under id.by-under;
+              by_under = under-sum n ic.by id.by ic.by_under id.by_under;
               bounds =
                   boundary-sum D n ic.by id.by
                   ∙ ap₂ ◌⊕◌ (sym ic.bounds) (sym id.bounds)
@@ -111,7 +111,7 @@ module _ (D : ℕ → Chain) (n m : ℕ) (columns : (i : ℕ) → i < n → Unde
             record {
               under = under-sum m c k ic.under (boundaries-group.under k bk);
               by = ic.by ⊕ bk.by;
-              by-under = under-sum n ic.by bk.by ic.by-under bk.by-under;
+              by_under = under-sum n ic.by bk.by ic.by_under bk.by_under;
               bounds =
                   sum-last c k A
                   ∙ ap₂ ◌⊕◌ ic.bounds (sym bk.bounds)

@@ -80,11 +80,11 @@ smaller-at P Q r out in' agree =
     record {
       rank = r;
       top = record { holds = rw (out, in'); above = λ j h. ap (λ b. differ b (Q j)) (agree j h) ∙ differ_self (Q j) };
-      inQ = in';
+      in_q = in';
     }
 
 pub smaller-out : (P Q : Chain) (s : Smaller P Q) → P s.rank ≡ false
-smaller-out P Q s = differ-other (P s.rank) (Q s.rank) s.top.holds s.inQ
+smaller-out P Q s = differ-other (P s.rank) (Q s.rank) s.top.holds s.in_q
 
 pub smaller-above : (P Q : Chain) (s : Smaller P Q) (j : ℕ) → s.rank < j → P j ≡ Q j
 smaller-above P Q s j h = differ_same (P j) (Q j) (s.top.above j h)
@@ -92,7 +92,7 @@ smaller-above P Q s j h = differ_same (P j) (Q j) (s.top.above j h)
 -- The order is strict and total.
 
 pub smaller-irreflexive : (P : Chain) → Smaller P P → ⊥
-smaller-irreflexive P s = true≢false (sym s.inQ ∙ smaller-out P P s)
+smaller-irreflexive P s = true≢false (sym s.in_q ∙ smaller-out P P s)
 
 pub smaller-transitive : (P Q R : Chain) → Smaller P Q → Smaller Q R → Smaller P R
 smaller-transitive P Q R s t = go (dec_lt s.rank t.rank) (dec_lt t.rank s.rank)
@@ -102,14 +102,14 @@ smaller-transitive P Q R s t = go (dec_lt s.rank t.rank) (dec_lt t.rank s.rank)
 
     go : Dec (s.rank < t.rank) → Dec (t.rank < s.rank) → Smaller P R
     go (yes lt) d =
-        smaller-at P R t.rank (smaller-above P Q s t.rank lt ∙ smaller-out Q R t) t.inQ
+        smaller-at P R t.rank (smaller-above P Q s t.rank lt ∙ smaller-out Q R t) t.in_q
         (λ j h. agree j (omega arith) h)
     go (no ge) (yes gt) =
-        smaller-at P R s.rank (smaller-out P Q s) (sym (smaller-above Q R t s.rank gt) ∙ s.inQ)
+        smaller-at P R s.rank (smaller-out P Q s) (sym (smaller-above Q R t s.rank gt) ∙ s.in_q)
         (λ j h. agree j h (omega arith))
     go (no ge) (no le) =
         let z : s.rank ≡ t.rank = omega arith in
-        absurd (true≢false (sym s.inQ ∙ ap Q z ∙ smaller-out Q R t))
+        absurd (true≢false (sym s.in_q ∙ ap Q z ∙ smaller-out Q R t))
 
 pub smaller-asymmetric : (P Q : Chain) → Smaller P Q → Smaller Q P → ⊥
 smaller-asymmetric P Q s t = smaller-irreflexive P (smaller-transitive P Q P s t)
@@ -118,7 +118,7 @@ pub smaller-total : (n : ℕ) (P Q : Chain) → Under n P → Under n Q → (P �
 smaller-total n P Q up uq = go (top_of n (P ⊕ Q) (under-sum n P Q up uq))
   where
     at : (i : ℕ) → Top (P ⊕ Q) i → (b : Bool) → Q i ≡ b → (Smaller P Q) ⊎ (Smaller Q P)
-    at i t true e = inl (record { rank = i; top = t; inQ = e })
+    at i t true e = inl (record { rank = i; top = t; in_q = e })
     at i t false e =
         inr (smaller-at Q P i e (sym (differ-false (P i)) ∙ ap (differ (P i)) (sym e) ∙ t.holds)
         (λ j h. sym (differ_same (P j) (Q j) (t.above j h))))

@@ -34,7 +34,7 @@ smaller-moved P Q k s e =
     record {
       rank = s.rank;
       top = subst (λ x. Top x s.rank) (ap (λ x. P ⊕ x) (sum_comm Q k) ∙ sym (sum-assoc P k Q)) s.top;
-      inQ = sym (differ-false (Q s.rank)) ∙ ap (differ (Q s.rank)) (sym e) ∙ s.inQ;
+      in_q = sym (differ-false (Q s.rank)) ∙ ap (differ (Q s.rank)) (sym e) ∙ s.in_q;
     }
 
 -- Rank n is put into a chain below it, or taken out of one that holds it as its last.
@@ -97,16 +97,16 @@ module _ (n : ℕ) (P : Chain → Type 0) where
           none' (c ⊕ unit n) (last_out n c h.0 e, subst P (sym (sum_twice c (unit n))) h.1)
 
 -- The smallest chain of n ranks with a property that can be tested is found, or it is found that there is none.
-unfoldable pub search-all : (n : ℕ) (P : Chain → Type 0) → ((c : Chain) → Under n c → Dec (P c)) → Found (λ c. Under n c × P c)
-search-all zero P test = go (test empty (under-empty zero))
+unfoldable pub search_all : (n : ℕ) (P : Chain → Type 0) → ((c : Chain) → Under n c → Dec (P c)) → Found (λ c. Under n c × P c)
+search_all zero P test = go (test empty (under-empty zero))
   where
     go : Dec (P empty) → Found (λ c. Under zero c × P c)
     go (yes p) =
         inl (empty, record { has = (under-empty zero, p); least = λ d h. inl (sym (under-zero d h.0)) })
     go (no q) = inr (λ c h. q (subst P (under-zero c h.0) h.1))
-search-all (suc n) P test =
-    go (search-all n P (λ c u. test c (under_more n (suc n) c (omega arith) u)))
-    (search-all n (λ c. P (c ⊕ unit n)) (λ c u. test (c ⊕ unit n) (last-in n c u)))
+search_all (suc n) P test =
+    go (search_all n P (λ c u. test c (under_more n (suc n) c (omega arith) u)))
+    (search_all n (λ c. P (c ⊕ unit n)) (λ c u. test (c ⊕ unit n) (last-in n c u)))
   where
     go : Found (λ c. Under n c × P c) → Found (λ c. Under n c × P (c ⊕ unit n)) → Found (λ c. Under (suc n) c × P c)
     go (inl s) o = inl (s.0, lower n P s.0 s.1)
@@ -114,21 +114,21 @@ search-all (suc n) P test =
     go (inr none) (inr none') = inr (neither n P none none')
 
 -- What is found depends only on which chains have the property.
-unfoldable pub found-same : (Has Has' : Chain → Type 0) → ((d : Chain) → Has d ↔ Has' d) → Found Has → Found Has'
-found-same Has Has' same (inl s) = inl (s.0, smallest-same Has Has' s.0 same s.1)
-found-same Has Has' same (inr none) = inr (λ c h. none c ((same c).1 h))
+unfoldable pub found_same : (Has Has' : Chain → Type 0) → ((d : Chain) → Has d ↔ Has' d) → Found Has → Found Has'
+found_same Has Has' same (inl s) = inl (s.0, smallest-same Has Has' s.0 same s.1)
+found_same Has Has' same (inr none) = inr (λ c h. none c ((same c).1 h))
 
 module _ (D : ℕ → Chain) (n m : ℕ) (columns : (i : ℕ) → i < n → Under m (D i)) where
-  unfoldable pub filling-found : (A : Chain) → Under m A → Found (Fills D n A)
-  filling-found A u =
-      found-same (λ c. Under n c × (boundary D n c ≡ A)) (Fills D n A)
+  unfoldable pub filling_found : (A : Chain) → Under m A → Found (Fills D n A)
+  filling_found A u =
+      found_same (λ c. Under n c × (boundary D n c ≡ A)) (Fills D n A)
       (λ d. (λ p. record { under = p.0; bounds = p.1 }, λ f. (f.under, f.bounds)))
-      (search-all n (λ c. boundary D n c ≡ A)
+      (search_all n (λ c. boundary D n c ≡ A)
       (λ c _. same_or_not m (boundary D n c) A (boundary-under D n m c columns) u))
 
   -- It can be told whether A has a filling.
-  unfoldable pub fills-or-not : (A : Chain) → Under m A → ((c : Chain) × Fills D n A c) ⊎ ((c : Chain) → Fills D n A c → ⊥)
-  fills-or-not A u = go (filling-found A u)
+  unfoldable pub fills_or_not : (A : Chain) → Under m A → ((c : Chain) × Fills D n A c) ⊎ ((c : Chain) → Fills D n A c → ⊥)
+  fills_or_not A u = go (filling_found A u)
     where
       go : Found (Fills D n A) → ((c : Chain) × Fills D n A c) ⊎ ((c : Chain) → Fills D n A c → ⊥)
       go (inl s) = inl (s.0, s.1.has)
@@ -136,22 +136,22 @@ module _ (D : ℕ → Chain) (n m : ℕ) (columns : (i : ℕ) → i < n → Unde
 
   -- Where A has a filling, it has a smallest one.
   pub smallest-filling-exists : (A c : Chain) → Fills D n A c → (s : Chain) × SmallestFilling D n A s
-  smallest-filling-exists A c f = go (filling-found A (subst (Under m) f.bounds (boundary-under D n m c columns)))
+  smallest-filling-exists A c f = go (filling_found A (subst (Under m) f.bounds (boundary-under D n m c columns)))
     where
       go : Found (Fills D n A) → (s : Chain) × SmallestFilling D n A s
       go (inl s) = s
       go (inr none) = absurd (none c f)
 
   -- Every chain's class has a smallest chain.
-  unfoldable pub smallest-in-class-exists : (A : Chain) → Under m A → (s : Chain) × SmallestInClass D n m A s
-  smallest-in-class-exists A u = go (found-same (λ G. Under m G × Joined G) (InClass D n m A) same (search-all m Joined test))
+  unfoldable pub smallest_in_class_exists : (A : Chain) → Under m A → (s : Chain) × SmallestInClass D n m A s
+  smallest_in_class_exists A u = go (found_same (λ G. Under m G × Joined G) (InClass D n m A) same (search_all m Joined test))
     where
       -- G and A together bound
       Joined : Chain → Type 0
       Joined G = (x : Chain) × Under n x × (G ⊕ A ≡ boundary D n x)
 
       test : (G : Chain) → Under m G → Dec (Joined G)
-      test G ug = told (fills-or-not (G ⊕ A) (under-sum m G A ug u))
+      test G ug = told (fills_or_not (G ⊕ A) (under-sum m G A ug u))
         where
           told : ((c : Chain) × Fills D n (G ⊕ A) c) ⊎ ((c : Chain) → Fills D n (G ⊕ A) c → ⊥) → Dec (Joined G)
           told (inl f) = yes (f.0, f.1.under, sym f.1.bounds)
@@ -159,8 +159,8 @@ module _ (D : ℕ → Chain) (n m : ℕ) (columns : (i : ℕ) → i < n → Unde
 
       same : (G : Chain) → (Under m G × Joined G) ↔ InClass D n m A G
       same G = (
-        λ p. record { under = p.0; by = p.1.0; by-under = p.1.1; bounds = p.1.2 },
-        λ g. (g.under, (g.by, g.by-under, g.bounds)),
+        λ p. record { under = p.0; by = p.1.0; by_under = p.1.1; bounds = p.1.2 },
+        λ g. (g.under, (g.by, g.by_under, g.bounds)),
       )
 
       go : Found (InClass D n m A) → (s : Chain) × SmallestInClass D n m A s
@@ -169,6 +169,6 @@ module _ (D : ℕ → Chain) (n m : ℕ) (columns : (i : ℕ) → i < n → Unde
           absurd (none A (record {
             under = u;
             by = empty;
-            by-under = under-empty n;
+            by_under = under-empty n;
             bounds = sum_self A ∙ sym (boundary-empty D n);
           }))

@@ -66,7 +66,7 @@ module _ (K Has : Chain → Type 0) (n : ℕ) (group : Group K n) (coset : Coset
       worse e (inr less) =
           let here : less.rank ≡ i
           = top_unique k less.rank i (subst (λ x. Top x less.rank) (sum-twice-left c k) less.top) t in
-          true≢false (sym less.inQ ∙ ap (c ⊕ k) here ∙ rw (e, t.holds))
+          true≢false (sym less.in_q ∙ ap (c ⊕ k) here ∙ rw (e, t.holds))
 
       go : (b : Bool) → c i ≡ b → c i ≡ false
       go false e = e
@@ -83,7 +83,7 @@ module _ (K Has : Chain → Type 0) (n : ℕ) (group : Group K n) (coset : Coset
       go d m (inl e) = inl (same-of-sum c d e)
       go d m (inr t) =
           let out : c t.0 ≡ false = f (c ⊕ d) t.0 m t.1 in
-          inr (record { rank = t.0; top = t.1; inQ = ap (λ b. differ b (d t.0)) (sym out) ∙ t.1.holds })
+          inr (record { rank = t.0; top = t.1; in_q = ap (λ b. differ b (d t.0)) (sym out) ∙ t.1.holds })
 
   -- Smallest means free of K, for any group K by whose members the chains in question differ.
   pub smallest-free : (c : Chain) → Smallest Has c ↔ (Has c × Free K c)

@@ -48,7 +48,7 @@ weight-decided (suc n) P Q r h out in' agree =
 pub smaller-weighs-less : (n : ℕ) (P Q : Chain) → Under n P → Under n Q → Smaller P Q → weight n P < weight n Q
 smaller-weighs-less n P Q up uq s =
     weight-decided n P Q s.rank (top-under n _ s.rank (under-sum n P Q up uq) s.top)
-    (smaller-out P Q s) s.inQ (smaller-above P Q s)
+    (smaller-out P Q s) s.in_q (smaller-above P Q s)
 
 pub weighs-less-smaller : (n : ℕ) (P Q : Chain) → Under n P → Under n Q → weight n P < weight n Q → Smaller P Q
 weighs-less-smaller n P Q up uq lt = go (smaller-total n P Q up uq)

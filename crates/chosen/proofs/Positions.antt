@@ -11,23 +11,23 @@ use lib.ListN.{length, get_or, set, drop, replicate, length-set, length-drop, le
 use lib.Seq.{drop-cons, get_or-set_same, get_or-set_other}
 use lib.Dec.{eqb, leb, ltb}
 use borrow.Author.Tests.{lt-ltb, le-ltb, le-leb, lt-leb, eq-eqb, ne_eqb}
-use Rattle.format.specs.Numbers.{chainItem}
+use Rattle.format.specs.Numbers.{chain_item}
 use Rattle.format.specs.Simplex.{all_below}
-use Rattle.format.specs.Reading.{Reading, accepted, refused, ◌andThen◌, u16At, positionsOf, risingBelow}
-use Rattle.format.specs.Marks.{checkPositions, positions-then, among}
+use Rattle.format.specs.Reading.{Reading, accepted, refused, ◌and_then◌, u16_at, positions_of, rising_below}
+use Rattle.format.specs.Marks.{check_positions, positions-then, among}
 use Rattle.lists.specs.Verdicts.{reading_of}
 use Rattle.lists.specs.declared.Verdict.TheVariants.{Fine, Refused}
 use Rattle.chosen.specs.declared.ChainRead.{ChainRead}
 use Rattle.chosen.specs.Meaning.{PositionsRead}
 
 -- the next position, while two bytes are left; none where fewer are
-next-position : (p : List ℕ) (at : ℕ) → at + 1 < length p → positionsOf (drop at p) ≡ u16At p at ∷ positionsOf (drop (at + 2) p)
-unfolding positionsOf
+next-position : (p : List ℕ) (at : ℕ) → at + 1 < length p → positions_of (drop at p) ≡ u16_at p at ∷ positions_of (drop (at + 2) p)
+unfolding positions_of
 next-position p at h =
     rw (drop-cons p at 0 (omega arith), drop-cons p (suc at) 0 (omega arith), add-one at, add-two at)
 
-few-left : (l : List ℕ) → length l ≤ 1 → positionsOf l ≡ []
-unfolding positionsOf
+few-left : (l : List ℕ) → length l ≤ 1 → positions_of l ≡ []
+unfolding positions_of
 few-left [] h = refl
 few-left (a ∷ []) h = refl
 few-left (a ∷ b ∷ l) h = absurd (omega arith)
@@ -38,18 +38,18 @@ then-accepted (refused n p) = refl
 
 -- all checks, with the positions handed on at their end
 abbrev pub Checked : (count at least : ℕ) (ps all : List ℕ) → Reading (List ℕ)
-Checked count at least ps all = checkPositions count at least ps (accepted all)
+Checked count at least ps all = check_positions count at least ps (accepted all)
 
-rising-checked : (count at least : ℕ) (ps : List ℕ) → risingBelow count at least ps ≡ Checked count at least ps ps
-rising-checked count at least ps = sym (then-accepted (risingBelow count at least ps)) ∙ positions-then count at least ps accepted
+rising-checked : (count at least : ℕ) (ps : List ℕ) → rising_below count at least ps ≡ Checked count at least ps ps
+rising-checked count at least ps = sym (then-accepted (rising_below count at least ps)) ∙ positions-then count at least ps accepted
 
 -- THE INVARIANT, at byte `at` of the payload.
 pub record Marking (p : List ℕ) (base count : ℕ) (on : List Bool) (least at : ℕ) : Type 0 where
   pub long : length on ≡ 512
   pub near : at ≤ length p + 1
-  pub rest : risingBelow count base 0 (positionsOf p) ≡ Checked count (base + at) least (positionsOf (drop at p)) (positionsOf p)
-  pub below : all_below count (positionsOf p) ≡ all_below count (positionsOf (drop at p))
-  pub marked : (i : ℕ) → (get_or on i false || among i (positionsOf (drop at p))) ≡ among i (positionsOf p)
+  pub rest : rising_below count base 0 (positions_of p) ≡ Checked count (base + at) least (positions_of (drop at p)) (positions_of p)
+  pub below : all_below count (positions_of p) ≡ all_below count (positions_of (drop at p))
+  pub marked : (i : ℕ) → (get_or on i false || among i (positions_of (drop at p))) ≡ among i (positions_of p)
 
 pub all-off : (n i : ℕ) → get_or (replicate n false) i false ≡ false
 all-off zero i = refl
@@ -61,27 +61,27 @@ marking-starts p base count on off =
     record {
       long = ap length off ∙ length-replicate 512 false;
       near = omega arith;
-      rest = rising-checked count base 0 (positionsOf p) ∙ ap (λ n. Checked count n 0 (positionsOf p) (positionsOf p)) (sym (add-zero base));
+      rest = rising-checked count base 0 (positions_of p) ∙ ap (λ n. Checked count n 0 (positions_of p) (positions_of p)) (sym (add-zero base));
       below = refl;
-      marked = λ i. ap (λ x. get_or x i false || among i (positionsOf p)) off ∙ ap (λ x. x || among i (positionsOf p)) (all-off 512 i);
+      marked = λ i. ap (λ x. get_or x i false || among i (positions_of p)) off ∙ ap (λ x. x || among i (positions_of p)) (all-off 512 i);
     }
 
 module _ {p : List ℕ} {base count : ℕ} {on : List Bool} {least at : ℕ} (now : Marking p base count on least at) (more : at + 1 < length p) where
   -- a position that is not above the one before, or not below the count, is refused where it stands
-  pub marking-low : u16At p at < least → risingBelow count base 0 (positionsOf p) ≡ refused chainItem (base + at)
-  unfolding checkPositions
-  marking-low h = now.rest ∙ rw (next-position p at more, lt-ltb (u16At p at) least h)
+  pub marking-low : u16_at p at < least → rising_below count base 0 (positions_of p) ≡ refused chain_item (base + at)
+  unfolding check_positions
+  marking-low h = now.rest ∙ rw (next-position p at more, lt-ltb (u16_at p at) least h)
 
-  pub marking-high : count ≤ u16At p at → risingBelow count base 0 (positionsOf p) ≡ refused chainItem (base + at)
-  unfolding checkPositions
-  marking-high h = now.rest ∙ rw (next-position p at more, le-leb count (u16At p at) h, or-true)
+  pub marking-high : count ≤ u16_at p at → rising_below count base 0 (positions_of p) ≡ refused chain_item (base + at)
+  unfolding check_positions
+  marking-high h = now.rest ∙ rw (next-position p at more, le-leb count (u16_at p at) h, or-true)
 
   -- any other is marked
-  pub marking-goes-on : (q : ℕ) → q ≡ u16At p at → least ≤ q → q < count → count ≤ 512 → Marking p base count (set on q true) (q + 1) (at + 2)
-  unfolding checkPositions all_below among
+  pub marking-goes-on : (q : ℕ) → q ≡ u16_at p at → least ≤ q → q < count → count ≤ 512 → Marking p base count (set on q true) (q + 1) (at + 2)
+  unfolding check_positions all_below among
   marking-goes-on q is low high few =
-      let next : positionsOf (drop at p) ≡ q ∷ positionsOf (drop (at + 2) p)
-      = next-position p at more ∙ ap (λ x. x ∷ positionsOf (drop (at + 2) p)) (sym is) in
+      let next : positions_of (drop at p) ≡ q ∷ positions_of (drop (at + 2) p)
+      = next-position p at more ∙ ap (λ x. x ∷ positions_of (drop (at + 2) p)) (sym is) in
       record {
         long = length-set on q true ∙ now.long;
         near = omega arith;
@@ -90,29 +90,29 @@ module _ {p : List ℕ} {base count : ℕ} {on : List Bool} {least at : ℕ} (no
         marked = λ i. one i (ℕ_discrete i q) ∙ ap (λ x. get_or on i false || among i x) (sym next) ∙ now.marked i;
       }
     where
-      one : (i : ℕ) → Dec (i ≡ q) → (get_or (set on q true) i false || among i (positionsOf (drop (at + 2) p))) ≡ (get_or on i false || (eqb i q || among i (positionsOf (drop (at + 2) p))))
+      one : (i : ℕ) → Dec (i ≡ q) → (get_or (set on q true) i false || among i (positions_of (drop (at + 2) p))) ≡ (get_or on i false || (eqb i q || among i (positions_of (drop (at + 2) p))))
       one i (yes e) = rw (e, get_or-set_same on q true false (omega (arith, now.long)), eq-eqb q q refl, or-true)
       one i (no n) = rw (get_or-set_other on q i true false n, ne_eqb i q n)
 
 -- at the end everything is checked and marked
 module _ {p : List ℕ} {base count : ℕ} {on : List Bool} {least at : ℕ} (now : Marking p base count on least at) (done : length p ≤ at + 1) where
-  none_left : positionsOf (drop at p) ≡ []
+  none_left : positions_of (drop at p) ≡ []
   none_left = few-left (drop at p) (omega (arith, length-drop at p))
 
-  pub marking-accepts : risingBelow count base 0 (positionsOf p) ≡ accepted (positionsOf p)
-  unfolding checkPositions
+  pub marking-accepts : rising_below count base 0 (positions_of p) ≡ accepted (positions_of p)
+  unfolding check_positions
   marking-accepts = now.rest ∙ rw none_left
 
-  pub marking-below : all_below count (positionsOf p) ≡ true
+  pub marking-below : all_below count (positions_of p) ≡ true
   unfolding all_below
   marking-below = now.below ∙ rw none_left
 
-  pub marking-marks : (i : ℕ) → get_or on i false ≡ among i (positionsOf p)
+  pub marking-marks : (i : ℕ) → get_or on i false ≡ among i (positions_of p)
   unfolding among
   marking-marks i = sym (or-false (get_or on i false)) ∙ ap (λ x. get_or on i false || among i x) (sym none_left) ∙ now.marked i
 
 -- What is handed back with a refusal, and at the end.
-pub positions-refused : (p : List ℕ) (base count n q : ℕ) (on : List Bool) → risingBelow count base 0 (positionsOf p) ≡ refused n q → PositionsRead p base count (record { verdict = Refused n q; on = on })
+pub positions-refused : (p : List ℕ) (base count n q : ℕ) (on : List Bool) → rising_below count base 0 (positions_of p) ≡ refused n q → PositionsRead p base count (record { verdict = Refused n q; on = on })
 positions-refused p base count n q on e =
     record {
       verdict = e;
@@ -123,7 +123,7 @@ positions-refused p base count n q on e =
 pub positions-read : {p : List ℕ} {base count : ℕ} (r : ChainRead) {least at : ℕ} → r.verdict ≡ Fine → Marking p base count r.on least at → length p ≤ at + 1 → PositionsRead p base count r
 positions-read {p} r fine now done =
     record {
-      verdict = marking-accepts now done ∙ ap (λ v. reading_of v (positionsOf p)) (sym fine);
+      verdict = marking-accepts now done ∙ ap (λ v. reading_of v (positions_of p)) (sym fine);
       below = λ f. marking-below now done;
       marks = λ f. marking-marks now done;
     }

@@ -1,10 +1,10 @@
 // The chain that a job asks about: a chain record's positions, or a walk's steps, become marks by rank.
 ghost use Rattle.std.specs.Prelude.{◌≡◌, ◌≤◌, ◌<◌, length};
-ghost use Rattle.format.specs.Reading.{edgeBetween};
-ghost use Rattle.lists.specs.Meaning.{verticesOf};
+ghost use Rattle.format.specs.Reading.{edge_between};
+ghost use Rattle.lists.specs.Meaning.{vertices_of};
 ghost use Rattle.lookup.specs.Indexed.{Proper, Indexed};
-ghost use Rattle.lookup.specs.Numbered.{simplicesIn};
-ghost use Rattle.chosen.specs.Meaning.{PositionsRead, WalkRead, stepAt};
+ghost use Rattle.lookup.specs.Numbered.{simplices_in};
+ghost use Rattle.chosen.specs.Meaning.{PositionsRead, WalkRead, step_at};
 
 use lists::{Found, Simplex, SimplexList, Verdict};
 
@@ -59,7 +59,7 @@ pub fn read_positions(p: &[u8], base: usize, count: usize) -> ChainRead
 
 // The edge between two vertices, the lower one first.
 pub fn edge_between(a: u8, b: u8) -> Simplex
-    ensures { verticesOf result ≡ edgeBetween a b }
+    ensures { vertices_of result ≡ edge_between a b }
 {
     if a < b {
         Simplex {
@@ -77,7 +77,7 @@ pub fn edge_between(a: u8, b: u8) -> Simplex
 // The edge that the walk's step from place i on takes; the last step goes back to the first vertex.
 fn step_at(p: &[u8], i: usize) -> Simplex
     requires { i < length p.now }
-    ensures { verticesOf result ≡ stepAt p.now i }
+    ensures { vertices_of result ≡ step_at p.now i }
 {
     let next = i + 1;
     if next < p.len() {
@@ -97,9 +97,9 @@ pub fn read_walk(
     next: &[u16],
 ) -> ChainRead
     requires base_bound { (base ≤ 65536) × (edges ≤ 512) }
-    requires proper { Proper 2 (simplicesIn 2 keys.now edges) }
-    requires indexed { Indexed (simplicesIn 2 keys.now edges) keys.now first.now next.now edges }
-    ensures { WalkRead p.now base (simplicesIn 2 keys.now edges) result }
+    requires proper { Proper 2 (simplices_in 2 keys.now edges) }
+    requires indexed { Indexed (simplices_in 2 keys.now edges) keys.now first.now next.now edges }
+    ensures { WalkRead p.now base (simplices_in 2 keys.now edges) result }
 {
     let mut on = [false; SimplexList::LIMIT];
     let mut i = 0;

@@ -13,10 +13,10 @@ use lib.Seq.{paste, paste-zero, paste-suc}
 use lib.Pow.{pow-lt}
 use lib.Bits.{bit_xor}
 use borrow.Author.Fill.{fill_more}
-use Rattle.columns.specs.Column.{bit, bit_at, chainOf, xorBytes, clearedFront}
+use Rattle.columns.specs.Column.{bit, bit_at, chain_of, xor_bytes, cleared_front}
 use Rattle.columns.specs.ColumnLaws.{bit-zero}
 use Rattle.columns.specs.SlotLaws.{xor-nil}
-use Rattle.columns.specs.Search.{highestBelow, highest-held, highest-not-held, highest-skip}
+use Rattle.columns.specs.Search.{highest_below, highest-held, highest-not-held, highest-skip}
 use Rattle.columns.specs.declared.Highest.TheVariants.{At}
 
 -- a one that is shifted by less than eight places stays in its byte
@@ -34,11 +34,11 @@ pub record Added (d s : List ℕ) (n : ℕ) (x : List ℕ) (i : ℕ) : Type 0 wh
   pub into : n ≤ length d
   pub from : n ≤ length s
   pub within : i ≤ n
-  pub sum : x ≡ xorBytes d (take i s)
+  pub sum : x ≡ xor_bytes d (take i s)
   pub long : length x ≡ length d
 
 xor-turn : (d s : List ℕ) (i : ℕ) → i < length d → i < length s
-    → set (xorBytes d (take i s)) i (bit_xor (get_or (xorBytes d (take i s)) i 0) (get_or s i 0)) ≡ xorBytes d (take (suc i) s)
+    → set (xor_bytes d (take i s)) i (bit_xor (get_or (xor_bytes d (take i s)) i 0) (get_or s i 0)) ≡ xor_bytes d (take (suc i) s)
 xor-turn [] s i hd hs = absurd (omega arith)
 xor-turn (x ∷ d) [] i hd hs = absurd (omega arith)
 xor-turn (x ∷ d) (y ∷ s) zero hd hs = ap (λ (t : List ℕ). bit_xor x y ∷ t) (sym (xor-nil d))
@@ -55,14 +55,14 @@ added_more {d} {s} {n} {x} {i} a l = record {
   within = omega arith;
   sum = ap (λ (t : List ℕ). set t i (bit_xor (get_or t i 0) (get_or s i 0))) a.sum
       ∙ xor-turn d s i (omega arith) (omega arith)
-      ∙ ap (λ (k : ℕ). xorBytes d (take k s)) (sym (add-one i));
+      ∙ ap (λ (k : ℕ). xor_bytes d (take k s)) (sym (add-one i));
   long = length-set x i _ ∙ a.long;
 }
 
-pub added-all : {d s : List ℕ} {n : ℕ} {x : List ℕ} {i : ℕ} → Added d s n x i → n ≤ i → x ≡ xorBytes d (take n s)
+pub added-all : {d s : List ℕ} {n : ℕ} {x : List ℕ} {i : ℕ} → Added d s n x i → n ≤ i → x ≡ xor_bytes d (take n s)
 added-all {d} {s} {n} {x} {i} a l =
     let all : i ≡ n = omega (arith, a.within) in
-    a.sum ∙ ap (λ (k : ℕ). xorBytes d (take k s)) all
+    a.sum ∙ ap (λ (k : ℕ). xor_bytes d (take k s)) all
 
 -- ---- the loop that clears: at byte i, the first i bytes are zero
 
@@ -81,7 +81,7 @@ cleared_more {d} {x} {i} a l = record {
   long = length-set x i 0 ∙ a.long;
 }
 
-pub cleared-front : {d x : List ℕ} {n i : ℕ} → Cleared d x i → n ≤ i → i ≤ n → x ≡ clearedFront n d
+pub cleared-front : {d x : List ℕ} {n i : ℕ} → Cleared d x i → n ≤ i → i ≤ n → x ≡ cleared_front n d
 cleared-front {d} {x} {n} {i} a l within =
     let all : i ≡ n = omega arith in
     a.zeros ∙ ap (λ (j : ℕ). replicate j 0 ++ drop j d) all
@@ -115,14 +115,14 @@ copied_all {d} {at} {s} {n} {x} {j} a l = let all : j ≡ n = omega arith in a.c
 
 -- ---- the search downwards: one rank below i
 
-pub found-bit : (col : List ℕ) (i : ℕ) → 0 < i → bit_at col (i - 1) ≡ true → highestBelow (chainOf col) i ≡ At (i - 1)
+pub found-bit : (col : List ℕ) (i : ℕ) → 0 < i → bit_at col (i - 1) ≡ true → highest_below (chain_of col) i ≡ At (i - 1)
 found-bit col i l e =
     let up : suc (i - 1) ≡ i = omega arith in
-    subst (λ (k : ℕ). highestBelow (chainOf col) k ≡ At (i - 1)) up (highest-held (chainOf col) (i - 1) e)
+    subst (λ (k : ℕ). highest_below (chain_of col) k ≡ At (i - 1)) up (highest-held (chain_of col) (i - 1) e)
 
 pub skip-bit : (col : List ℕ) (i : ℕ) → 0 < i → bit_at col (i - 1) ≡ false
-    → highestBelow (chainOf col) i ≡ highestBelow (chainOf col) (i - 1)
+    → highest_below (chain_of col) i ≡ highest_below (chain_of col) (i - 1)
 skip-bit col i l e =
     let up : suc (i - 1) ≡ i = omega arith in
-    subst (λ (k : ℕ). highestBelow (chainOf col) k ≡ highestBelow (chainOf col) (i - 1)) up
-    (highest-not-held (chainOf col) (i - 1) e)
+    subst (λ (k : ℕ). highest_below (chain_of col) k ≡ highest_below (chain_of col) (i - 1)) up
+    (highest-not-held (chain_of col) (i - 1) e)

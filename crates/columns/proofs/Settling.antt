@@ -10,13 +10,13 @@ use lib.ListN.{length, get_or, set, drop}
 use lib.Seq.{get_or-take, get_or-drop}
 use lib.Bits.{bit_xor}
 use Rattle.chains.specs.Chain.{Chain, differ}
-use Rattle.columns.specs.Column.{bit, bit_at, chainOf, xorBytes}
-use Rattle.columns.specs.ColumnLaws.{bit-xor, length-xor, chainOf-xor}
-use Rattle.columns.specs.Slot.{roomOf, slot, takenAt, storeSlot}
-use Rattle.columns.specs.SlotLaws.{bit-halfR, length-slot}
+use Rattle.columns.specs.Column.{bit, bit_at, chain_of, xor_bytes}
+use Rattle.columns.specs.ColumnLaws.{bit-xor, length-xor, chain_of-xor}
+use Rattle.columns.specs.Slot.{room_of, slot, taken_at, store_slot}
+use Rattle.columns.specs.SlotLaws.{bit-half_r, length-slot}
 use Rattle.columns.specs.Word.{WordAt}
-use Rattle.columns.specs.Search.{highestBelow, HighestAt, highest-held, highest-skip, highest-at, highest-nothing}
-use Rattle.columns.specs.Reduce.{held_at, redBytes, rowsLeft, Settled, settled, Settles, stored_at, takenWith, Inserts}
+use Rattle.columns.specs.Search.{highest_below, HighestAt, highest-held, highest-skip, highest-at, highest-nothing}
+use Rattle.columns.specs.Reduce.{held_at, red_bytes, rows_left, Settled, settled, Settles, stored_at, taken_with, Inserts}
 use Rattle.columns.specs.ReduceLaws.{row-add, stuck, not_stuck, settled-stuck, settled_on, settled-skip, settled-red, settled_at, length-settled}
 use Rattle.columns.specs.declared.Highest.{Highest}
 use Rattle.columns.specs.declared.Highest.TheVariants.{At, Nothing}
@@ -32,10 +32,10 @@ pub settling-start : (h : ℕ) (work : List ℕ) (taken : List Bool) (rows : ℕ
 settling-start h work taken rows start l = record { low = l; within = omega arith; long = refl; same = refl }
 
 module _ {h : ℕ} {work : List ℕ} {taken : List Bool} {rows : ℕ} {start cur : List ℕ} {left : ℕ}
-    (s : Settling h work taken rows start cur left) {answer : Highest} (searched : answer ≡ highestBelow (chainOf cur) left) where
+    (s : Settling h work taken rows start cur left) {answer : Highest} (searched : answer ≡ highest_below (chain_of cur) left) where
   -- row j of those left is a bit of the whole pair
   row-bit : (j : ℕ) → j < left → held_at h j cur ≡ bit_at cur j
-  row-bit j l = bit-halfR h cur j (let low = s.low in let w = s.within in omega arith)
+  row-bit j l = bit-half_r h cur j (let low = s.low in let w = s.within in omega arith)
 
   -- nothing is held: it is through
   pub settling-end : answer ≡ Nothing → Settles h work taken rows start Nothing cur
@@ -44,12 +44,12 @@ module _ {h : ℕ} {work : List ℕ} {taken : List Bool} {rows : ℕ} {start cur
       let all : settled h work taken rows start ≡ record { at = Nothing; cur = cur } =
       s.same
       ∙ settled-skip h work taken 0 left cur (omega arith)
-      (λ j p q. row-bit j q ∙ highest-nothing (chainOf cur) left (sym searched ∙ none) j q) in
+      (λ j p q. row-bit j q ∙ highest-nothing (chain_of cur) left (sym searched ∙ none) j q) in
       record { where-stuck = sym (ap (λ (t : Settled). t.at) all); what-left = sym (ap (λ (t : Settled). t.cur) all) }
 
   module _ {r : ℕ} (found : answer ≡ At r) where
-    at_row : HighestAt (chainOf cur) left r
-    at_row = highest-at (chainOf cur) left r (sym searched ∙ found)
+    at_row : HighestAt (chain_of cur) left r
+    at_row = highest-at (chain_of cur) left r (sym searched ∙ found)
 
     pub row_below : r < left
     row_below = at_row.below
@@ -65,14 +65,14 @@ module _ {h : ℕ} {work : List ℕ} {taken : List Bool} {rows : ℕ} {start cur
     down = settled-skip h work taken (suc r) left cur row_below (λ j p q. row-bit j q ∙ at_row.above j p q)
 
     -- the slot is not taken: it is stuck
-    pub settling-stop : takenAt taken r ≡ false → Settles h work taken rows start (At r) cur
+    pub settling-stop : taken_at taken r ≡ false → Settles h work taken rows start (At r) cur
     settling-stop out =
         let all : settled h work taken rows start ≡ record { at = At r; cur = cur } =
         s.same ∙ down ∙ settled-stuck h work taken r cur (stuck h work taken r cur held out) in
         record { where-stuck = sym (ap (λ (t : Settled). t.at) all); what-left = sym (ap (λ (t : Settled). t.cur) all) }
 
     -- the slot is added: on with the rows below
-    pub settling-add : {next : List ℕ} → takenAt taken r ≡ true → next ≡ xorBytes cur (slot h work r)
+    pub settling-add : {next : List ℕ} → taken_at taken r ≡ true → next ≡ xor_bytes cur (slot h work r)
         → Settling h work taken rows start next r
     settling-add full e = record {
       low = s.low;
@@ -98,15 +98,15 @@ bit-slot h work r i l =
     ∙ ap (bit (get_or work ((8 * from + i) / 8) 0)) (sym place)
 
 -- the word of a pair to which a slot was added is the sum of the two words
-word_sum : (h : ℕ) (work : List ℕ) (r : ℕ) → r < 8 * h → roomOf h ≤ length work → (cur : List ℕ) (at word other : ℕ)
+word_sum : (h : ℕ) (work : List ℕ) (r : ℕ) → r < 8 * h → room_of h ≤ length work → (cur : List ℕ) (at word other : ℕ)
     → length cur ≡ 2 * h → at + 8 ≤ 2 * h → WordAt cur at word → WordAt work (r * (2 * h) + at) other
-    → WordAt (xorBytes cur (slot h work r)) at (bit_xor word other)
+    → WordAt (xor_bytes cur (slot h work r)) at (bit_xor word other)
 word_sum h work r low room cur at word other pair within w v = record {
   holds = λ k l.
       let place : 8 * (r * (2 * h) + at) + k ≡ 8 * (r * (2 * h)) + (8 * at + k) = omega arith in
       bit-xor word other k
       ∙ ap₂ differ (w.holds k l) (v.holds k l ∙ ap (bit_at work) place ∙ sym (bit-slot h work r (8 * at + k) (omega arith)))
-      ∙ sym (ap (λ (c : Chain). c (8 * at + k)) (chainOf-xor cur (slot h work r) (omega (arith, length-slot h work r low room))));
+      ∙ sym (ap (λ (c : Chain). c (8 * at + k)) (chain_of-xor cur (slot h work r) (omega (arith, length-slot h work r low room))));
 }
 
 -- ---- the same loop with a word of the pair kept beside it: the bits of the word are those of the pair from byte `at` on
@@ -134,7 +134,7 @@ module _ {h : ℕ} {work : List ℕ} {taken : List Bool} {rows : ℕ} {start cur
   pub scan-low : at ≤ h
   scan-low = omega (arith, s.settling.low, s.settling.within)
 
-  module _ {answer : Highest} (searched : answer ≡ highestBelow (bit word) left) where
+  module _ {answer : Highest} (searched : answer ≡ highest_below (bit word) left) where
     -- a bit of the word that is searched is a row of the pair
     word_row : (j : ℕ) → at * 8 ≤ j → j < at * 8 + left → bit word (j - at * 8) ≡ bit_at cur j
     word_row j p q =
@@ -152,14 +152,14 @@ module _ {h : ℕ} {work : List ℕ} {taken : List Bool} {rows : ℕ} {start cur
         same = s.settling.same
             ∙ settled-skip h work taken (at * 8) (at * 8 + left) cur (omega arith)
             (λ j p q.
-            bit-halfR h cur j (omega (arith, s.settling.low, s.settling.within))
+            bit-half_r h cur j (omega (arith, s.settling.low, s.settling.within))
             ∙ sym (word_row j p q)
             ∙ highest-nothing (bit word) left (sym searched ∙ none) (j - at * 8) (omega arith));
       }
 
       -- it was the lowest word
       pub scanning-end : at ≡ 0 → Settles h work taken rows start Nothing cur
-      unfolding highestBelow
+      unfolding highest_below
       scanning-end z =
           let through : Settling h work taken rows start cur 0 = subst (λ (n : ℕ). Settling h work taken rows start cur (n * 8)) z passed in
           settling-end through {answer = Nothing} refl refl
@@ -186,12 +186,12 @@ module _ {h : ℕ} {work : List ℕ} {taken : List Bool} {rows : ℕ} {start cur
       pub bit_below : k < left
       bit_below = top.below
 
-      row-found : At (at * 8 + k) ≡ highestBelow (chainOf cur) (at * 8 + left)
+      row-found : At (at * 8 + k) ≡ highest_below (chain_of cur) (at * 8 + left)
       row-found =
           let back : at * 8 + k - at * 8 ≡ k = omega arith in
-          sym (highest-skip (chainOf cur) (suc (at * 8 + k)) (at * 8 + left) (omega (arith, bit_below))
+          sym (highest-skip (chain_of cur) (suc (at * 8 + k)) (at * 8 + left) (omega (arith, bit_below))
           (λ j p q. sym (word_row j (omega arith) q) ∙ top.above (j - at * 8) (omega arith) (omega arith))
-          ∙ highest-held (chainOf cur) (at * 8 + k)
+          ∙ highest-held (chain_of cur) (at * 8 + k)
           (sym (word_row (at * 8 + k) (omega arith) (omega (arith, bit_below))) ∙ ap (bit word) back ∙ top.holds))
 
       scan-row-low : at * 8 + k < 8 * h
@@ -200,13 +200,13 @@ module _ {h : ℕ} {work : List ℕ} {taken : List Bool} {rows : ℕ} {start cur
       pub scan-row-below : at * 8 + k < rows
       scan-row-below = omega (arith, bit_below, s.settling.within)
 
-      pub scanning-stop : takenAt taken (at * 8 + k) ≡ false → Settles h work taken rows start (At (at * 8 + k)) cur
+      pub scanning-stop : taken_at taken (at * 8 + k) ≡ false → Settles h work taken rows start (At (at * 8 + k)) cur
       scanning-stop out = settling-stop s.settling row-found refl out
 
       -- the slot is added to the pair, and its word to the word
-      pub scanning-add : {next : List ℕ} (other : ℕ) → 8 ≤ h → roomOf h ≤ length work → length start ≡ 2 * h
-          → takenAt taken (at * 8 + k) ≡ true
-          → next ≡ xorBytes cur (slot h work (at * 8 + k))
+      pub scanning-add : {next : List ℕ} (other : ℕ) → 8 ≤ h → room_of h ≤ length work → length start ≡ 2 * h
+          → taken_at taken (at * 8 + k) ≡ true
+          → next ≡ xor_bytes cur (slot h work (at * 8 + k))
           → WordAt work ((at * 8 + k) * (2 * h) + at) other
           → Scanning h work taken rows start next at k (bit_xor word other)
       scanning-add {next} other big room pair full e w = record {
@@ -221,7 +221,7 @@ module _ {h : ℕ} {work : List ℕ} {taken : List Bool} {rows : ℕ} {start cur
 pub record Reducing (h : ℕ) (work : List ℕ) (taken : List Bool) (rows : ℕ) (start cur : List ℕ) (left : ℕ) : Type 0 where
   pub within : left ≤ rows
   pub long : length cur ≡ length start
-  pub same : redBytes h work taken rows start ≡ redBytes h work taken left cur
+  pub same : red_bytes h work taken rows start ≡ red_bytes h work taken left cur
 
 pub reducing-start : (h : ℕ) (work : List ℕ) (taken : List Bool) (rows : ℕ) (start : List ℕ)
     → Reducing h work taken rows start start rows
@@ -235,28 +235,28 @@ stuck-below {h} {work} {taken} {rows} {cur} {r = r} e found = (settled_at h work
 module _ {h : ℕ} {work : List ℕ} {taken : List Bool} {rows : ℕ} {start cur : List ℕ} {left : ℕ}
     (s : Reducing h work taken rows start cur left) {answer : Highest} {l : List ℕ} (e : Settles h work taken left cur answer l) where
   -- the row at which it settled, and what is left, is as far as the reduction has come
-  so_far : redBytes h work taken rows start ≡ redBytes h work taken (rowsLeft answer) l
+  so_far : red_bytes h work taken rows start ≡ red_bytes h work taken (rows_left answer) l
   so_far =
       s.same
       ∙ settled-red h work taken left cur
-      ∙ ap₂ (λ (a : Highest) (c : List ℕ). redBytes h work taken (rowsLeft a) c) (sym e.where-stuck) (sym e.what-left)
+      ∙ ap₂ (λ (a : Highest) (c : List ℕ). red_bytes h work taken (rows_left a) c) (sym e.where-stuck) (sym e.what-left)
 
-  pub reducing-end : answer ≡ Nothing → l ≡ redBytes h work taken rows start
-  unfolding redBytes
-  reducing-end none = sym (so_far ∙ ap (λ (a : Highest). redBytes h work taken (rowsLeft a) l) none)
+  pub reducing-end : answer ≡ Nothing → l ≡ red_bytes h work taken rows start
+  unfolding red_bytes
+  reducing-end none = sym (so_far ∙ ap (λ (a : Highest). red_bytes h work taken (rows_left a) l) none)
 
   pub reducing-on : {r : ℕ} → answer ≡ At r → Reducing h work taken rows start l r
   reducing-on found = record {
     within = let b = stuck-below e found in let w = s.within in omega arith;
     long = ap length e.what-left ∙ length-settled h work taken left cur ∙ s.long;
-    same = so_far ∙ ap (λ (a : Highest). redBytes h work taken (rowsLeft a) l) found;
+    same = so_far ∙ ap (λ (a : Highest). red_bytes h work taken (rows_left a) l) found;
   }
 
 -- ---- the insertion: what is left goes into the slot of the row at which it is stuck
 
 pub inserted-at : {h : ℕ} {work : List ℕ} {taken : List Bool} {rows : ℕ} {cur : List ℕ} {answer : Highest} {l after : List ℕ}
-    {takenAfter : List Bool} {r : ℕ} → Settles h work taken rows cur answer l → answer ≡ At r → after ≡ storeSlot h work r l
-    → takenAfter ≡ set taken r true → Inserts h work taken rows cur (At r) l after takenAfter
+    {taken_after : List Bool} {r : ℕ} → Settles h work taken rows cur answer l → answer ≡ At r → after ≡ store_slot h work r l
+    → taken_after ≡ set taken r true → Inserts h work taken rows cur (At r) l after taken_after
 inserted-at e found put mark = record {
   settles = record { where-stuck = sym found ∙ e.where-stuck; what-left = e.what-left };
   stored = put;
@@ -269,5 +269,5 @@ pub inserted-none : {h : ℕ} {work : List ℕ} {taken : List Bool} {rows : ℕ}
 inserted-none {h} {work} {taken} {l = l} e none = record {
   settles = e;
   stored = sym (ap (λ (a : Highest). stored_at h work a l) none);
-  marked = sym (ap (takenWith taken) none);
+  marked = sym (ap (taken_with taken) none);
 }

@@ -11,10 +11,10 @@ use lib.Dec.{eqb}
 use lib.ListN.{get_or}
 use lib.Pow.{pow_pos, pow-add, pow-lt, shr-shr, high, low, field, mod-mod-pow}
 use borrow.Author.Tests.{ne_eqb}
-use Rattle.columns.specs.Column.{bit, bit_at, chainOf}
+use Rattle.columns.specs.Column.{bit, bit_at, chain_of}
 use Rattle.columns.specs.ColumnLaws.{bit-zero}
 use Rattle.columns.specs.Word.{WordAt, HighestBit}
-use Rattle.columns.specs.Search.{highestBelow, highest-held, highest-not-held, highest-skip}
+use Rattle.columns.specs.Search.{highest_below, highest-held, highest-not-held, highest-skip}
 use Rattle.columns.specs.declared.Highest.TheVariants.{At, Nothing}
 
 -- ---- bits of a number
@@ -146,27 +146,27 @@ word-mask : (k : ℕ) → k < 64 → 1 * 2 ^ k % 18446744073709551616 ≡ 2 ^ k
 word-mask k l = ap (λ (x : ℕ). x % 18446744073709551616) (one-mul (2 ^ k)) ∙ mod-eq_of_lt (pow-lt l)
 
 -- what a search cuts the word with, and what is left of it
-abbrev pub maskBelow : ℕ → ℕ
-maskBelow k = 1 * 2 ^ k % 18446744073709551616
+abbrev pub mask_below : ℕ → ℕ
+mask_below k = 1 * 2 ^ k % 18446744073709551616
 
-abbrev pub cutBelow : ℕ → ℕ → ℕ
-cutBelow k word = word % maskBelow k
+abbrev pub cut_below : ℕ → ℕ → ℕ
+cut_below k word = word % mask_below k
 
-pub mask-below-pos : (k : ℕ) → k < 64 → 0 < maskBelow k
+pub mask-below-pos : (k : ℕ) → k < 64 → 0 < mask_below k
 mask-below-pos k l = subst (λ (x : ℕ). 0 < x) (sym (word-mask k l)) (pow_pos k)
 
 -- nothing is left of bit k and of those above
-cut-below-low : (k word r : ℕ) → k < 64 → HighestBit (cutBelow k word) r → r < k
+cut-below-low : (k word r : ℕ) → k < 64 → HighestBit (cut_below k word) r → r < k
 cut-below-low k word r few h = elim (dec_lt r k) [ yes l ↦ l | no l ↦ absurd (not-held (omega arith)) ]
   where
     not-held : k ≤ r → ⊥
     not-held l =
-        let short : cutBelow k word < 2 ^ k = subst (λ (x : ℕ). cutBelow k word < x) (word-mask k few) (mod-lt word (mask-below-pos k few)) in
+        let short : cut_below k word < 2 ^ k = subst (λ (x : ℕ). cut_below k word < x) (word-mask k few) (mod-lt word (mask-below-pos k few)) in
         let longer : 2 ^ k ≤ 2 ^ r = pow-le-pow_right {n = 2} (omega arith) {i = k} {j = r} l in
-        false≢true (sym (bit-over (cutBelow k word) r (omega arith)) ∙ h.held)
+        false≢true (sym (bit-over (cut_below k word) r (omega arith)) ∙ h.held)
 
 -- and those below are the word's
-cut-below-bit : (k word j : ℕ) → k < 64 → j < k → bit word j ≡ bit (cutBelow k word) j
+cut-below-bit : (k word j : ℕ) → k < 64 → j < k → bit word j ≡ bit (cut_below k word) j
 cut-below-bit k word j few l = sym (bit-mod word k j l) ∙ ap (λ (m : ℕ). bit (word % m) j) (sym (word-mask k few))
 
 -- ---- the search in a word alone, downwards from bit `left`
@@ -179,9 +179,9 @@ bit-off : (word k : ℕ) → (word / 2 ^ k % 2 ≡ 1 → ⊥) → bit word k ≡
 unfolding bit
 bit-off word k n = ne_eqb (word / 2 ^ k % 2) 1 n
 
-pub none_at_all : (word left : ℕ) → left ≡ 0 → Nothing ≡ highestBelow (bit word) left
-unfolding highestBelow
-none_at_all word left e = sym (ap (highestBelow (bit word)) e)
+pub none_at_all : (word left : ℕ) → left ≡ 0 → Nothing ≡ highest_below (bit word) left
+unfolding highest_below
+none_at_all word left e = sym (ap (highest_below (bit word)) e)
 
 module _ (word left : ℕ) (few : left ≤ 64) (some : left ≡ 0 → ⊥) where
   low-last : left - 1 < 64
@@ -190,22 +190,22 @@ module _ (word left : ℕ) (few : left ≤ 64) (some : left ≡ 0 → ⊥) where
   up : suc (left - 1) ≡ left
   up = omega arith
 
-  pub last-held : word / 2 ^ (left - 1) % 2 ≡ 1 → At (left - 1) ≡ highestBelow (bit word) left
-  last-held e = sym (ap (highestBelow (bit word)) (sym up) ∙ highest-held (bit word) (left - 1) (bit-on word (left - 1) e))
+  pub last-held : word / 2 ^ (left - 1) % 2 ≡ 1 → At (left - 1) ≡ highest_below (bit word) left
+  last-held e = sym (ap (highest_below (bit word)) (sym up) ∙ highest-held (bit word) (left - 1) (bit-on word (left - 1) e))
 
   module _ (off : word / 2 ^ (left - 1) % 2 ≡ 1 → ⊥) where
     -- the last bit is passed over
-    passed : highestBelow (bit word) left ≡ highestBelow (bit word) (left - 1)
-    passed = ap (highestBelow (bit word)) (sym up) ∙ highest-not-held (bit word) (left - 1) (bit-off word (left - 1) off)
+    passed : highest_below (bit word) left ≡ highest_below (bit word) (left - 1)
+    passed = ap (highest_below (bit word)) (sym up) ∙ highest-not-held (bit word) (left - 1) (bit-off word (left - 1) off)
 
-    pub none-held : cutBelow (left - 1) word ≡ 0 → Nothing ≡ highestBelow (bit word) left
+    pub none-held : cut_below (left - 1) word ≡ 0 → Nothing ≡ highest_below (bit word) left
     none-held z =
         none_at_all word 0 refl
         ∙ sym (passed
         ∙ highest-skip (bit word) 0 (left - 1) (omega arith)
         (λ j p q. cut-below-bit (left - 1) word j low-last q ∙ ap (λ (x : ℕ). bit x j) z ∙ bit-zero j))
 
-    pub some-held : (r : ℕ) → HighestBit (cutBelow (left - 1) word) r → At r ≡ highestBelow (bit word) left
+    pub some-held : (r : ℕ) → HighestBit (cut_below (left - 1) word) r → At r ≡ highest_below (bit word) left
     some-held r h =
         let l : r < left - 1 = cut-below-low (left - 1) word r low-last h in
         sym (passed

@@ -12,19 +12,19 @@ unfoldable pub bit_at : List ℕ → ℕ → Bool
 bit_at l i = bit (get_or l (i / 8) 0) (i % 8)
 
 -- the chain that a column holds
-abbrev pub chainOf : List ℕ → Chain
-chainOf l = bit_at l
+abbrev pub chain_of : List ℕ → Chain
+chain_of l = bit_at l
 
 -- The sum of two columns, byte by byte. It is as long as the first; a second that is shorter counts as followed by zeros.
-abbrev pub xorBytes : List ℕ → List ℕ → List ℕ
-xorBytes [] b = []
-xorBytes (x ∷ a) [] = x ∷ a
-xorBytes (x ∷ a) (y ∷ b) = bit_xor x y ∷ xorBytes a b
+abbrev pub xor_bytes : List ℕ → List ℕ → List ℕ
+xor_bytes [] b = []
+xor_bytes (x ∷ a) [] = x ∷ a
+xor_bytes (x ∷ a) (y ∷ b) = bit_xor x y ∷ xor_bytes a b
 
 -- the column with bit i turned over; past the end nothing changes
 unfoldable pub flipped : List ℕ → ℕ → List ℕ
 flipped l i = set l (i / 8) (bit_xor (get_or l (i / 8) 0) (2 ^ (i % 8)))
 
 -- bytes of which the first n are zero
-abbrev pub clearedFront : ℕ → List ℕ → List ℕ
-clearedFront n l = replicate n 0 ++ drop n l
+abbrev pub cleared_front : ℕ → List ℕ → List ℕ
+cleared_front n l = replicate n 0 ++ drop n l

@@ -11,7 +11,7 @@ use Rattle.std.proofs.lemmas.Nat.{shl-shr, xor_shr, xor_mod}
 use Rattle.std.specs.Int.Bits.{bit_xor, xor_zero_r}
 use Rattle.chains.specs.Chain.{differ, ◌⊕◌, empty, unit, Under}
 use Rattle.chains.specs.Sum.{differ-false}
-use Rattle.columns.specs.Column.{bit, bit_at, chainOf, xorBytes, flipped}
+use Rattle.columns.specs.Column.{bit, bit_at, chain_of, xor_bytes, flipped}
 
 -- ---- one bit of one byte
 
@@ -67,40 +67,40 @@ bit-power k j = ⊎_elim below (λ h. ⊎_elim same above h) (three k j)
 
 -- ---- sums of columns
 
-pub length-xor : (a b : List ℕ) → length (xorBytes a b) ≡ length a
+pub length-xor : (a b : List ℕ) → length (xor_bytes a b) ≡ length a
 length-xor [] b = refl
 length-xor (x ∷ a) [] = refl
 length-xor (x ∷ a) (y ∷ b) = ap suc (length-xor a b)
 
 -- byte j of a sum
-pub getD-xor : (a b : List ℕ) (j : ℕ) → length b ≤ length a → get_or (xorBytes a b) j 0 ≡ bit_xor (get_or a j 0) (get_or b j 0)
-getD-xor [] [] j h = refl
-getD-xor [] (y ∷ b) j h = absurd (omega arith)
-getD-xor (x ∷ a) [] j h = sym (xor_zero_r _)
-getD-xor (x ∷ a) (y ∷ b) zero h = refl
-getD-xor (x ∷ a) (y ∷ b) (suc j) h = getD-xor a b j (omega arith)
+pub get_or-xor : (a b : List ℕ) (j : ℕ) → length b ≤ length a → get_or (xor_bytes a b) j 0 ≡ bit_xor (get_or a j 0) (get_or b j 0)
+get_or-xor [] [] j h = refl
+get_or-xor [] (y ∷ b) j h = absurd (omega arith)
+get_or-xor (x ∷ a) [] j h = sym (xor_zero_r _)
+get_or-xor (x ∷ a) (y ∷ b) zero h = refl
+get_or-xor (x ∷ a) (y ∷ b) (suc j) h = get_or-xor a b j (omega arith)
 
 -- the sum of two columns holds the sum of their chains
-pub chainOf-xor : (a b : List ℕ) → length b ≤ length a → chainOf (xorBytes a b) ≡ chainOf a ⊕ chainOf b
+pub chain_of-xor : (a b : List ℕ) → length b ≤ length a → chain_of (xor_bytes a b) ≡ chain_of a ⊕ chain_of b
 unfolding bit_at
-chainOf-xor a b h =
-    fun_ext (λ i. ap (λ (x : ℕ). bit x (i % 8)) (getD-xor a b (i / 8) h)
+chain_of-xor a b h =
+    fun_ext (λ i. ap (λ (x : ℕ). bit x (i % 8)) (get_or-xor a b (i / 8) h)
     ∙ bit-xor (get_or a (i / 8) 0) (get_or b (i / 8) 0) (i % 8))
 
 -- ---- the empty column, and columns as bounded chains
 
-pub chainOf-zeros : (n : ℕ) → chainOf (replicate n 0) ≡ empty
+pub chain_of-zeros : (n : ℕ) → chain_of (replicate n 0) ≡ empty
 unfolding bit_at
-chainOf-zeros n = fun_ext (λ i. ap (λ (x : ℕ). bit x (i % 8)) (zeros n (i / 8)) ∙ bit-zero (i % 8))
+chain_of-zeros n = fun_ext (λ i. ap (λ (x : ℕ). bit x (i % 8)) (zeros n (i / 8)) ∙ bit-zero (i % 8))
   where
     zeros : (n j : ℕ) → get_or {A = ℕ} (replicate n 0) j 0 ≡ 0
     zeros zero j = refl
     zeros (suc n) zero = refl
     zeros (suc n) (suc j) = zeros n j
 
-pub chainOf-under : (l : List ℕ) → Under (8 * length l) (chainOf l)
+pub chain_of-under : (l : List ℕ) → Under (8 * length l) (chain_of l)
 unfolding bit_at
-chainOf-under l i h = ap (λ (x : ℕ). bit x (i % 8)) (get_or-eq_default l 0 (omega arith)) ∙ bit-zero (i % 8)
+chain_of-under l i h = ap (λ (x : ℕ). bit x (i % 8)) (get_or-eq_default l 0 (omega arith)) ∙ bit-zero (i % 8)
 
 -- ---- a flipped bit
 
@@ -115,9 +115,9 @@ same_bit i j e = elim (ℕ_discrete i j) [
   | no n ↦ ne_eqb (i % 8) (j % 8) (λ q. n (omega arith)) ∙ sym (ne_eqb i j n)
 ]
 
-pub chainOf-flipped : (l : List ℕ) (i : ℕ) → i < 8 * length l → chainOf (flipped l i) ≡ chainOf l ⊕ unit i
+pub chain_of-flipped : (l : List ℕ) (i : ℕ) → i < 8 * length l → chain_of (flipped l i) ≡ chain_of l ⊕ unit i
 unfolding bit_at flipped
-chainOf-flipped l i h = fun_ext (λ j. elim (ℕ_discrete (j / 8) (i / 8)) [ yes e ↦ here j e | no n ↦ other j n ])
+chain_of-flipped l i h = fun_ext (λ j. elim (ℕ_discrete (j / 8) (i / 8)) [ yes e ↦ here j e | no n ↦ other j n ])
   where
     new : ℕ
     new = bit_xor (get_or l (i / 8) 0) (2 ^ (i % 8))

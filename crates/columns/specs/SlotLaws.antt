@@ -9,15 +9,15 @@ use Rattle.std.proofs.Math.Seq.{length-take-le, take-nil, take_all, drop_at}
 use Rattle.std.proofs.lemmas.List.Edits.{take-paste, drop-paste}
 use Rattle.std.specs.Int.Bits.{bit_xor}
 use Rattle.chains.specs.Chain.{◌⊕◌}
-use Rattle.columns.specs.Column.{bit, bit_at, chainOf, xorBytes}
-use Rattle.columns.specs.ColumnLaws.{chainOf-xor}
-use Rattle.columns.specs.Slot.{roomOf, halfR, halfV, chainR, chainV, slot, storeSlot}
+use Rattle.columns.specs.Column.{bit, bit_at, chain_of, xor_bytes}
+use Rattle.columns.specs.ColumnLaws.{chain_of-xor}
+use Rattle.columns.specs.Slot.{room_of, half_r, half_v, chain_r, chain_v, slot, store_slot}
 
 -- ---- where slots lie
 
 -- a slot is within the work memory
-pub slot-fits : (h r n : ℕ) → r < 8 * h → roomOf h ≤ n → r * (2 * h) + 2 * h ≤ n
-unfolding roomOf
+pub slot-fits : (h r n : ℕ) → r < 8 * h → room_of h ≤ n → r * (2 * h) + 2 * h ≤ n
+unfolding room_of
 slot-fits h r n l room = le_trans (le_of_eq (next r)) (le_trans (mul-le-mul_right (2 * h) l) room)
   where
     next : (r : ℕ) → r * (2 * h) + 2 * h ≡ suc r * (2 * h)
@@ -50,15 +50,15 @@ same_rest to k m a b l e =
 
 -- ---- lengths
 
-pub length-halfR : (h : ℕ) (c : List ℕ) → 2 * h ≤ length c → length (halfR h c) ≡ h
-unfolding halfR
-length-halfR h c l = length-take-le h c (omega arith)
+pub length-half_r : (h : ℕ) (c : List ℕ) → 2 * h ≤ length c → length (half_r h c) ≡ h
+unfolding half_r
+length-half_r h c l = length-take-le h c (omega arith)
 
-pub length-halfV : (h : ℕ) (c : List ℕ) → 2 * h ≤ length c → length (halfV h c) ≡ h
-unfolding halfV
-length-halfV h c l = length-take-le h (drop h c) (rw (length-drop h c) (omega arith))
+pub length-half_v : (h : ℕ) (c : List ℕ) → 2 * h ≤ length c → length (half_v h c) ≡ h
+unfolding half_v
+length-half_v h c l = length-take-le h (drop h c) (rw (length-drop h c) (omega arith))
 
-module _ (h : ℕ) (work : List ℕ) (r : ℕ) (low : r < 8 * h) (room : roomOf h ≤ length work) where
+module _ (h : ℕ) (work : List ℕ) (r : ℕ) (low : r < 8 * h) (room : room_of h ≤ length work) where
   fits : r * (2 * h) + 2 * h ≤ length work
   fits = slot-fits h r (length work) low room
 
@@ -74,8 +74,8 @@ module _ (h : ℕ) (work : List ℕ) (r : ℕ) (low : r < 8 * h) (room : roomOf 
     at = le_trans (le-add_right _ _) fits
 
     -- the slot holds what was stored
-    pub slot-stored : slot h (storeSlot h work r cur) r ≡ cur
-    unfolding slot storeSlot
+    pub slot-stored : slot h (store_slot h work r cur) r ≡ cur
+    unfolding slot store_slot
     slot-stored =
         sym (drop-take (r * (2 * h)) (2 * h) _)
         ∙ ap (drop (r * (2 * h))) (take-paste work (r * (2 * h)) cur (2 * h) at (le_of_eq (sym whole)))
@@ -83,8 +83,8 @@ module _ (h : ℕ) (work : List ℕ) (r : ℕ) (low : r < 8 * h) (room : roomOf 
         ∙ take_all (2 * h) cur (le_of_eq whole)
 
     -- every other slot is as it was
-    pub slot_kept : (q : ℕ) → q ≢ r → slot h (storeSlot h work r cur) q ≡ slot h work q
-    unfolding slot storeSlot
+    pub slot_kept : (q : ℕ) → q ≢ r → slot h (store_slot h work r cur) q ≡ slot h work q
+    unfolding slot store_slot
     slot_kept q n = elim (dec_lt q r) [
       | yes l ↦ same-part (r * (2 * h)) (q * (2 * h)) (2 * h) _ work (slot-before h q r l) front
       | no m ↦ same_rest (r * (2 * h) + 2 * h) (q * (2 * h)) (2 * h) _ work (slot-before h r q (omega arith))
@@ -102,48 +102,48 @@ module _ (h : ℕ) (work : List ℕ) (r : ℕ) (low : r < 8 * h) (room : roomOf 
 
 -- ---- sums
 
-pub xor-nil : (a : List ℕ) → xorBytes a [] ≡ a
+pub xor-nil : (a : List ℕ) → xor_bytes a [] ≡ a
 xor-nil [] = refl
 xor-nil (x ∷ a) = refl
 
-take-xor : (n : ℕ) (a b : List ℕ) → take n (xorBytes a b) ≡ xorBytes (take n a) (take n b)
+take-xor : (n : ℕ) (a b : List ℕ) → take n (xor_bytes a b) ≡ xor_bytes (take n a) (take n b)
 take-xor zero a b = refl
 take-xor (suc n) [] b = refl
 take-xor (suc n) (x ∷ a) [] = refl
 take-xor (suc n) (x ∷ a) (y ∷ b) = ap (λ (t : List ℕ). bit_xor x y ∷ t) (take-xor n a b)
 
-drop-xor : (n : ℕ) (a b : List ℕ) → drop n (xorBytes a b) ≡ xorBytes (drop n a) (drop n b)
+drop-xor : (n : ℕ) (a b : List ℕ) → drop n (xor_bytes a b) ≡ xor_bytes (drop n a) (drop n b)
 drop-xor zero a b = refl
 drop-xor (suc n) [] b = refl
 drop-xor (suc n) (x ∷ a) [] = sym (xor-nil (drop n a))
 drop-xor (suc n) (x ∷ a) (y ∷ b) = drop-xor n a b
 
-pub halfR-xor : (h : ℕ) (a b : List ℕ) → halfR h (xorBytes a b) ≡ xorBytes (halfR h a) (halfR h b)
-unfolding halfR
-halfR-xor h a b = take-xor h a b
+pub half_r-xor : (h : ℕ) (a b : List ℕ) → half_r h (xor_bytes a b) ≡ xor_bytes (half_r h a) (half_r h b)
+unfolding half_r
+half_r-xor h a b = take-xor h a b
 
-pub halfV-xor : (h : ℕ) (a b : List ℕ) → halfV h (xorBytes a b) ≡ xorBytes (halfV h a) (halfV h b)
-unfolding halfV
-halfV-xor h a b = ap (take h) (drop-xor h a b) ∙ take-xor h (drop h a) (drop h b)
+pub half_v-xor : (h : ℕ) (a b : List ℕ) → half_v h (xor_bytes a b) ≡ xor_bytes (half_v h a) (half_v h b)
+unfolding half_v
+half_v-xor h a b = ap (take h) (drop-xor h a b) ∙ take-xor h (drop h a) (drop h b)
 
 -- the halves of a sum hold the sums of the halves' chains
-pub chainR-xor : (h : ℕ) (a b : List ℕ) → length a ≡ 2 * h → length b ≡ 2 * h
-    → chainR h (xorBytes a b) ≡ chainR h a ⊕ chainR h b
-chainR-xor h a b la lb =
-    ap chainOf (halfR-xor h a b)
-    ∙ chainOf-xor (halfR h a) (halfR h b)
-    (le_of_eq (length-halfR h b (le_of_eq (sym lb)) ∙ sym (length-halfR h a (le_of_eq (sym la)))))
+pub chain_r-xor : (h : ℕ) (a b : List ℕ) → length a ≡ 2 * h → length b ≡ 2 * h
+    → chain_r h (xor_bytes a b) ≡ chain_r h a ⊕ chain_r h b
+chain_r-xor h a b la lb =
+    ap chain_of (half_r-xor h a b)
+    ∙ chain_of-xor (half_r h a) (half_r h b)
+    (le_of_eq (length-half_r h b (le_of_eq (sym lb)) ∙ sym (length-half_r h a (le_of_eq (sym la)))))
 
-pub chainV-xor : (h : ℕ) (a b : List ℕ) → length a ≡ 2 * h → length b ≡ 2 * h
-    → chainV h (xorBytes a b) ≡ chainV h a ⊕ chainV h b
-chainV-xor h a b la lb =
-    ap chainOf (halfV-xor h a b)
-    ∙ chainOf-xor (halfV h a) (halfV h b)
-    (le_of_eq (length-halfV h b (le_of_eq (sym lb)) ∙ sym (length-halfV h a (le_of_eq (sym la)))))
+pub chain_v-xor : (h : ℕ) (a b : List ℕ) → length a ≡ 2 * h → length b ≡ 2 * h
+    → chain_v h (xor_bytes a b) ≡ chain_v h a ⊕ chain_v h b
+chain_v-xor h a b la lb =
+    ap chain_of (half_v-xor h a b)
+    ∙ chain_of-xor (half_v h a) (half_v h b)
+    (le_of_eq (length-half_v h b (le_of_eq (sym lb)) ∙ sym (length-half_v h a (le_of_eq (sym la)))))
 
 -- ---- bits of R
 
 -- a rank of R is a bit of the whole
-pub bit-halfR : (h : ℕ) (c : List ℕ) (i : ℕ) → i < 8 * h → bit_at (halfR h c) i ≡ bit_at c i
-unfolding bit_at halfR
-bit-halfR h c i l = ap (λ (x : ℕ). bit x (i % 8)) (get_or-take h c (i / 8) 0 (omega arith))
+pub bit-half_r : (h : ℕ) (c : List ℕ) (i : ℕ) → i < 8 * h → bit_at (half_r h c) i ≡ bit_at c i
+unfolding bit_at half_r
+bit-half_r h c i l = ap (λ (x : ℕ). bit x (i % 8)) (get_or-take h c (i / 8) 0 (omega arith))

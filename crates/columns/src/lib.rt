@@ -3,11 +3,11 @@
 // hold a column stands in `taken`: a slot that is not taken is not read, whatever its bytes are, so
 // the memory need not be touched before the first column.
 ghost use Rattle.std.specs.Prelude.{◌≡◌, ◌+◌, ◌*◌, ◌≤◌, ◌<◌, true, length, set, take, replicate};
-ghost use Rattle.columns.specs.Column.{bit, bit_at, chainOf, xorBytes, flipped, clearedFront};
-ghost use Rattle.columns.specs.Slot.{roomOf, slot, storeSlot};
+ghost use Rattle.columns.specs.Column.{bit, bit_at, chain_of, xor_bytes, flipped, cleared_front};
+ghost use Rattle.columns.specs.Slot.{room_of, slot, store_slot};
 ghost use Rattle.columns.specs.Word.{WordAt, HighestBit};
-ghost use Rattle.columns.specs.Search.{highestBelow};
-ghost use Rattle.columns.specs.Reduce.{redBytes, Settles, Inserts};
+ghost use Rattle.columns.specs.Search.{highest_below};
+ghost use Rattle.columns.specs.Reduce.{red_bytes, Settles, Inserts};
 
 // Whether the column holds rank i.
 pub fn test(col: &[u8], i: usize) -> bool
@@ -30,7 +30,7 @@ pub fn flip(col: &mut [u8], i: usize)
 // Adds the first n bytes of src to dst.
 pub fn add(dst: &mut [u8], src: &[u8], n: usize)
     requires { (n ≤ length dst.old) × (n ≤ length src.now) }
-    ensures { dst.new ≡ xorBytes dst.old (take n src.now) }
+    ensures { dst.new ≡ xor_bytes dst.old (take n src.now) }
 {
     let mut i = 0;
     while i < n {
@@ -42,7 +42,7 @@ pub fn add(dst: &mut [u8], src: &[u8], n: usize)
 // Makes the first n bytes zero.
 pub fn clear_front(bytes: &mut [u8], n: usize)
     requires { n ≤ length bytes.old }
-    ensures { bytes.new ≡ clearedFront n bytes.old }
+    ensures { bytes.new ≡ cleared_front n bytes.old }
 {
     let mut i = 0;
     while i < n {
@@ -96,7 +96,7 @@ fn highest_bit(word: u64) -> usize
 // The highest rank below `from` that the column holds, by a look at each.
 pub fn next_down(col: &[u8], from: usize) -> Highest
     requires { from ≤ 8 * length col.now }
-    ensures { result ≡ highestBelow (chainOf col.now) from }
+    ensures { result ≡ highest_below (chain_of col.now) from }
 {
     let mut i = from;
     while i > 0 {
@@ -111,9 +111,9 @@ pub fn next_down(col: &[u8], from: usize) -> Highest
 // Adds slot r to the pair of columns in hand.
 pub fn add_slot(cur: &mut [u8], work: &[u8], h: usize, r: usize)
     requires r_bound { r < 8 * h }
-    requires h_in_bounds { roomOf h ≤ length work.now }
+    requires h_in_bounds { room_of h ≤ length work.now }
     requires h_in_bounds_2 { 2 * h ≤ length cur.old }
-    ensures { cur.new ≡ xorBytes cur.old (slot h work.now r) }
+    ensures { cur.new ≡ xor_bytes cur.old (slot h work.now r) }
 {
     let size = 2 * h;
     let from = r * size;
@@ -124,9 +124,9 @@ pub fn add_slot(cur: &mut [u8], work: &[u8], h: usize, r: usize)
 // Puts the pair of columns in hand into slot r.
 pub fn store_slot(work: &mut [u8], cur: &[u8], h: usize, r: usize)
     requires r_bound { r < 8 * h }
-    requires h_in_bounds { roomOf h ≤ length work.old }
+    requires h_in_bounds { room_of h ≤ length work.old }
     requires h_in_bounds_2 { 2 * h ≤ length cur.now }
-    ensures { work.new ≡ storeSlot h work.old r cur.now }
+    ensures { work.new ≡ store_slot h work.old r cur.now }
 {
     let size = 2 * h;
     let from = r * size;
@@ -149,7 +149,7 @@ fn take_slot(taken: &mut [bool], r: usize)
 // answer as often as not.
 fn highest_in(word: u64, left: usize) -> Highest
     requires { left ≤ 64 }
-    ensures { result ≡ highestBelow (bit word) left }
+    ensures { result ≡ highest_below (bit word) left }
 {
     if left == 0 {
         return Highest::Nothing;
@@ -170,7 +170,7 @@ fn highest_in(word: u64, left: usize) -> Highest
 // added to as it is: so the search for that row does not wait until the sum is in the memory and read again.
 pub fn settle(cur: &mut [u8], work: &[u8], taken: &[bool], h: usize, rows: usize) -> Highest
     requires rows_bound { rows ≤ 8 * h }
-    requires h_in_bounds { roomOf h ≤ length work.now }
+    requires h_in_bounds { room_of h ≤ length work.now }
     requires cur_len { length cur.old ≡ 2 * h }
     requires rows_in_bounds { rows ≤ length taken.now }
     requires le_h { 8 ≤ h }
@@ -208,7 +208,7 @@ pub fn settle(cur: &mut [u8], work: &[u8], taken: &[bool], h: usize, rows: usize
 // nothing is left.
 pub fn insert(work: &mut [u8], cur: &mut [u8], taken: &mut [bool], h: usize, rows: usize) -> Highest
     requires rows_bound { rows ≤ 8 * h }
-    requires h_in_bounds { roomOf h ≤ length work.old }
+    requires h_in_bounds { room_of h ≤ length work.old }
     requires cur_len { length cur.old ≡ 2 * h }
     requires rows_in_bounds { rows ≤ length taken.old }
     requires le_h { 8 ≤ h }
@@ -225,11 +225,11 @@ pub fn insert(work: &mut [u8], cur: &mut [u8], taken: &mut [bool], h: usize, row
 // Reduces the pair in hand by the slots, all rows below `rows`.
 pub fn reduce(cur: &mut [u8], work: &[u8], taken: &[bool], h: usize, rows: usize)
     requires rows_bound { rows ≤ 8 * h }
-    requires h_in_bounds { roomOf h ≤ length work.now }
+    requires h_in_bounds { room_of h ≤ length work.now }
     requires cur_len { length cur.old ≡ 2 * h }
     requires rows_in_bounds { rows ≤ length taken.now }
     requires le_h { 8 ≤ h }
-    ensures { cur.new ≡ redBytes h work.now taken.now rows cur.old }
+    ensures { cur.new ≡ red_bytes h work.now taken.now rows cur.old }
 {
     let mut left = rows;
     loop {

@@ -1,6 +1,6 @@
 // A complex: its number of vertices and its three lists, by value; and a job, which asks a question of one.
 ghost use Rattle.std.specs.Prelude.{◌≡◌, length, ◌≤◌};
-ghost use Rattle.lists.specs.Meaning.{simplicesOf};
+ghost use Rattle.lists.specs.Meaning.{simplices_of};
 ghost use Rattle.complexes.specs.Meaning.{list_of};
 
 use heads::Head;
@@ -24,7 +24,7 @@ pub struct Job {
 
 // How many simplices a list holds.
 pub fn count_of(list: SimplexList) -> usize
-    ensures { (result ≡ length (simplicesOf list)) × (result ≤ 512) }
+    ensures { (result ≡ length (simplices_of list)) × (result ≤ 512) }
 {
     let count = list.count;
     if count < SimplexList::LIMIT {
@@ -47,7 +47,7 @@ impl Complex {
 
     // The list of a dimension from 1 to 3; outside, none.
     pub fn list(self, dim: usize) -> SimplexList
-        ensures { 1 ≤ dim → simplicesOf result ≡ list_of self dim }
+        ensures { 1 ≤ dim → simplices_of result ≡ list_of self dim }
     {
         if dim == 1 {
             return self.edges;

@@ -46,7 +46,7 @@ module _ {D : ℕ → Chain} {n m : ℕ} {R W : ℕ → Chain} (slots : Echelon 
       go : (p : Bool) → R r r ≡ p → R r r ≡ true
       go true e = e
       go false e =
-          absurd (stuck-no-boundary (omega arith) slots r b l e top.above top.holds bound.by bound.by-under bound.bounds)
+          absurd (stuck-no-boundary (omega arith) slots r b l e top.above top.holds bound.by bound.by_under bound.bounds)
 
   -- The reduction of A by all slots is the smallest chain of its class.
   pub class-found : ((i : ℕ) → i < n → Under m (D i)) → {A : Chain} → Under m A → SmallestInClass D n m A (reduce R m A)
@@ -54,7 +54,7 @@ module _ {D : ℕ → Chain} {n m : ℕ} {R W : ℕ → Chain} (slots : Echelon 
     record {
       under = λ j l. reduce-above R m A j slots.low l ∙ u j l;
       by = added.by;
-      by-under = added.by-under;
+      by_under = added.by_under;
       bounds = sym added.bounds;
     },
     λ b r bound top.
@@ -68,7 +68,7 @@ module _ {D : ℕ → Chain} {n m : ℕ} {R W : ℕ → Chain} (slots : Echelon 
       added : Bounds D n (reduce R m A ⊕ A)
       added =
           reduce-adds (Bounds D n) m group R m A
-          (λ r l. record { by = W r; by-under = slots.under r l; bounds = slots.sums r l })
+          (λ r l. record { by = W r; by_under = slots.under r l; bounds = slots.sums r l })
 
 -- The chain A was reduced down to row i, and `now` is left: from here on the two have the same reduction.
 pub record Classing (R : ℕ → Chain) (m : ℕ) (A : Chain) (i : ℕ) (now : Chain) : Type 0 where

@@ -9,39 +9,39 @@ use native.Mathlib.Nat.{sub-suc, sub-zero}
 use lib.ListN.{length, get_or, take}
 use Rattle.format.specs.Simplex.{same, simplices, SimplexSet}
 use Rattle.format.specs.Simplex as format
-use Rattle.format.specs.Reading.{moved, listOfKind, with_list}
+use Rattle.format.specs.Reading.{moved, list_of_kind, with_list}
 use Rattle.format.specs.Moves.{map-moved, length_moved}
 use Rattle.format.specs.EditLaws.{list-past, list-other, list-target, list-moved, MovedWithin, replaced-list, kept-list, with-edges, with-triangles, with-tetrahedra}
-use Rattle.lists.specs.Meaning.{none, verticesOf, simplicesOf}
+use Rattle.lists.specs.Meaning.{none, vertices_of, simplices_of}
 use Rattle.lists.specs.Items.{length-simplices, simplex-at}
 use Rattle.lists.specs.Moved.{MovedList, MovedMarks}
 use Rattle.lists.specs.declared.SimplexList.{SimplexList}
 use Rattle.lists.specs.declared.Marks.{Marks}
 use Rattle.lists.specs.declared.Verdict.TheVariants.{Fine, Refused}
-use Rattle.complexes.specs.Meaning.{complexOf, list_of, Marked}
+use Rattle.complexes.specs.Meaning.{complex_of, list_of, Marked}
 use Rattle.complexes.specs.declared.Complex.{Complex}
 use Rattle.edits.specs.Meaning.{Views, Chosen, Judged, MarksStay}
 use Rattle.edits.specs.declared.Edit.{Edit}
 use Rattle.edits.specs.declared.View.{View}
 
 -- A VIEW of a list, at the seen position, or at the last place of the array where the seen one lies behind that.
-pub viewed : (l : SimplexList) (seen rank : ℕ) → length l.items ≡ 512 → rank ≡ min seen 511 → Views (simplicesOf l) seen (record { count = l.count; there = get_or l.items rank none })
+pub viewed : (l : SimplexList) (seen rank : ℕ) → length l.items ≡ 512 → rank ≡ min seen 511 → Views (simplices_of l) seen (record { count = l.count; there = get_or l.items rank none })
 viewed l seen rank full e =
     record {
       counts = rw (← full) (sym (length-simplices l));
       stands = λ h.
           let here : seen ≡ rank = omega (arith, length-simplices l) in
-          simplex-at l seen (omega (arith, length-simplices l)) ∙ ap (λ i. verticesOf (get_or l.items i none)) here;
+          simplex-at l seen (omega (arith, length-simplices l)) ∙ ap (λ i. vertices_of (get_or l.items i none)) here;
     }
 
 module _ {kind : ℕ} {edges triangles tetrahedra : View} where
   pub chosen-edges : kind ≡ 2 → Chosen kind edges triangles tetrahedra edges
   unfolding simplices
-  chosen-edges k = record { views = λ X seen _ _ e t s. subst (λ n. Views (listOfKind n X) seen edges) (sym k) e }
+  chosen-edges k = record { views = λ X seen _ _ e t s. subst (λ n. Views (list_of_kind n X) seen edges) (sym k) e }
 
   pub chosen-triangles : kind ≡ 3 → Chosen kind edges triangles tetrahedra triangles
   unfolding simplices
-  chosen-triangles k = record { views = λ X seen _ _ e t s. subst (λ n. Views (listOfKind n X) seen triangles) (sym k) t }
+  chosen-triangles k = record { views = λ X seen _ _ e t s. subst (λ n. Views (list_of_kind n X) seen triangles) (sym k) t }
 
   pub chosen-tetrahedra : (kind ≡ 2 → ⊥) → (kind ≡ 3 → ⊥) → Chosen kind edges triangles tetrahedra tetrahedra
   unfolding simplices
@@ -49,55 +49,55 @@ module _ {kind : ℕ} {edges triangles tetrahedra : View} where
       record {
         views = λ X seen least most e t s.
             let k : kind ≡ 4 = omega arith in
-            subst (λ n. Views (listOfKind n X) seen tetrahedra) (sym k) s;
+            subst (λ n. Views (list_of_kind n X) seen tetrahedra) (sym k) s;
       }
 
 -- THE JUDGEMENT of an edit. `count` is the list's length, and `test` says whether the simplex stands at the seen position.
 module _ (edit : Edit) (view : View) {count : ℕ} (counted : count ≡ min view.count 512) where
   pub nothing-there : {at : ℕ} → count ≤ edit.seen → Judged at edit view (Refused 10 at)
-  nothing-there {at = at} h = record { reading = λ l v. list-past at edit.seen edit.new (verticesOf edit.simplex) l (omega (arith, v.counts)) }
+  nothing-there {at = at} h = record { reading = λ l v. list-past at edit.seen edit.new (vertices_of edit.simplex) l (omega (arith, v.counts)) }
 
-  module _ (within : edit.seen < count) {test : Bool} (tested : test ≡ same (verticesOf edit.simplex) (verticesOf view.there)) where
-    stood : (l : List format.Simplex) → Views l edit.seen view → (x : Bool) → test ≡ x → same (verticesOf edit.simplex) (get_or l edit.seen []) ≡ x
-    stood l v x e = ap (same (verticesOf edit.simplex)) (v.stands (omega (arith, v.counts))) ∙ sym tested ∙ e
+  module _ (within : edit.seen < count) {test : Bool} (tested : test ≡ same (vertices_of edit.simplex) (vertices_of view.there)) where
+    stood : (l : List format.Simplex) → Views l edit.seen view → (x : Bool) → test ≡ x → same (vertices_of edit.simplex) (get_or l edit.seen []) ≡ x
+    stood l v x e = ap (same (vertices_of edit.simplex)) (v.stands (omega (arith, v.counts))) ∙ sym tested ∙ e
 
     pub another-there : {at : ℕ} → test ≡ false → Judged at edit view (Refused 10 at)
-    another-there {at = at} e = record { reading = λ l v. list-other at edit.seen edit.new (verticesOf edit.simplex) l (stood l v false e) }
+    another-there {at = at} e = record { reading = λ l v. list-other at edit.seen edit.new (vertices_of edit.simplex) l (stood l v false e) }
 
     pub no_target : {at : ℕ} → test ≡ true → count ≤ edit.new → Judged at edit view (Refused 11 at)
     no_target {at = at} e h =
-        record { reading = λ l v. list-target at edit.seen edit.new (verticesOf edit.simplex) l (omega (arith, v.counts)) (stood l v true e) (omega (arith, v.counts)) }
+        record { reading = λ l v. list-target at edit.seen edit.new (vertices_of edit.simplex) l (omega (arith, v.counts)) (stood l v true e) (omega (arith, v.counts)) }
 
     pub can-be-done : {at : ℕ} → test ≡ true → edit.new < count → Judged at edit view Fine
     can-be-done {at = at} e h =
-        record { reading = λ l v. list-moved at edit.seen edit.new (verticesOf edit.simplex) l (omega (arith, v.counts)) (stood l v true e) (omega (arith, v.counts)) }
+        record { reading = λ l v. list-moved at edit.seen edit.new (vertices_of edit.simplex) l (omega (arith, v.counts)) (stood l v true e) (omega (arith, v.counts)) }
 
 -- THE COMPLEX after the list of a kind was moved.
 pub record Replaced (kind seen new : ℕ) (X Y : Complex) : Type 0 where
-  pub is : complexOf Y ≡ with_list kind (moved seen new (listOfKind kind (complexOf X))) (complexOf X)
+  pub is : complex_of Y ≡ with_list kind (moved seen new (list_of_kind kind (complex_of X))) (complex_of X)
 
 -- the code's list of a kind, moved, is the definition's one, moved
-gone : (seen new : ℕ) (l : List format.Simplex) (before after : SimplexList) → l ≡ simplicesOf before → new < length l → MovedList before after seen new → simplicesOf after ≡ moved seen new l
-gone seen new l before after here within m = let below : new < length (simplicesOf before) = rw (← here) within in m.simplices below ∙ ap (moved seen new) (sym here)
+gone : (seen new : ℕ) (l : List format.Simplex) (before after : SimplexList) → l ≡ simplices_of before → new < length l → MovedList before after seen new → simplices_of after ≡ moved seen new l
+gone seen new l before after here within m = let below : new < length (simplices_of before) = rw (← here) within in m.simplices below ∙ ap (moved seen new) (sym here)
 
-module _ {kind seen new : ℕ} (X : Complex) (after : SimplexList) (within : new < length (listOfKind kind (complexOf X))) where
+module _ {kind seen new : ℕ} (X : Complex) (after : SimplexList) (within : new < length (list_of_kind kind (complex_of X))) where
   pub edges-moved : kind ≡ 2 → MovedList X.edges after seen new → Replaced kind seen new X (record { v = X.v; edges = after; triangles = X.triangles; tetrahedra = X.tetrahedra })
   unfolding simplices
   edges-moved k m =
-      let here : listOfKind kind (complexOf X) ≡ simplicesOf X.edges = ap (λ n. listOfKind n (complexOf X)) k in
-      record { is = with-edges kind (simplicesOf after) (complexOf X) k ∙ rw (gone seen new (listOfKind kind (complexOf X)) X.edges after here within m) }
+      let here : list_of_kind kind (complex_of X) ≡ simplices_of X.edges = ap (λ n. list_of_kind n (complex_of X)) k in
+      record { is = with-edges kind (simplices_of after) (complex_of X) k ∙ rw (gone seen new (list_of_kind kind (complex_of X)) X.edges after here within m) }
 
   pub triangles-moved : kind ≡ 3 → MovedList X.triangles after seen new → Replaced kind seen new X (record { v = X.v; edges = X.edges; triangles = after; tetrahedra = X.tetrahedra })
   unfolding simplices
   triangles-moved k m =
-      let here : listOfKind kind (complexOf X) ≡ simplicesOf X.triangles = ap (λ n. listOfKind n (complexOf X)) k in
-      record { is = with-triangles kind (simplicesOf after) (complexOf X) k ∙ rw (gone seen new (listOfKind kind (complexOf X)) X.triangles after here within m) }
+      let here : list_of_kind kind (complex_of X) ≡ simplices_of X.triangles = ap (λ n. list_of_kind n (complex_of X)) k in
+      record { is = with-triangles kind (simplices_of after) (complex_of X) k ∙ rw (gone seen new (list_of_kind kind (complex_of X)) X.triangles after here within m) }
 
   pub tetrahedra-moved : kind ≡ 4 → MovedList X.tetrahedra after seen new → Replaced kind seen new X (record { v = X.v; edges = X.edges; triangles = X.triangles; tetrahedra = after })
   unfolding simplices
   tetrahedra-moved k m =
-      let here : listOfKind kind (complexOf X) ≡ simplicesOf X.tetrahedra = ap (λ n. listOfKind n (complexOf X)) k in
-      record { is = with-tetrahedra kind (simplicesOf after) (complexOf X) k ∙ rw (gone seen new (listOfKind kind (complexOf X)) X.tetrahedra after here within m) }
+      let here : list_of_kind kind (complex_of X) ≡ simplices_of X.tetrahedra = ap (λ n. list_of_kind n (complex_of X)) k in
+      record { is = with-tetrahedra kind (simplices_of after) (complex_of X) k ∙ rw (gone seen new (list_of_kind kind (complex_of X)) X.tetrahedra after here within m) }
 
 -- MARKS of a list's simplices, moved along with them, hold the same set.
 marked-moved : (before after : Marks) (seen new : ℕ) (l m : List format.Simplex) → length before.on ≡ 512 → MovedWithin seen new l m → MovedMarks before after seen new
@@ -105,12 +105,12 @@ marked-moved : (before after : Marks) (seen new : ℕ) (l m : List format.Simple
 marked-moved before after seen new l m full w goes A marked =
     let room = marked.room in
     let long : length m ≡ length l = ap length w.is ∙ length_moved seen new l in
-    let after-long : length after.on ≡ length before.on = ap length (goes.whole (omega (arith, w.new-below))) ∙ length_moved seen new before.on in
+    let after-long : length after.on ≡ length before.on = ap length (goes.whole (omega (arith, w.new_below))) ∙ length_moved seen new before.on in
     record {
       room = omega arith;
       marks =
           ap (λ n. take n after.on) long ∙
-          goes.front (length l) (omega arith) w.seen_below w.new-below ∙
+          goes.front (length l) (omega arith) w.seen_below w.new_below ∙
           ap (moved seen new) marked.marks ∙
           sym (map-moved A seen new l) ∙
           ap (map A) (sym w.is);
@@ -122,15 +122,15 @@ sub-one n = sub-suc n 0 ∙ ap pred (sub-zero n)
 
 module _ {kind seen new dim : ℕ} {X Y : Complex} (replaced : Replaced kind seen new X Y) {marks : Marks} where
   -- the list that was moved is the one whose simplices are marked
-  pub marks-go-along : 2 ≤ kind → kind ≤ 4 → MovedWithin seen new (listOfKind kind (complexOf X)) (moved seen new (listOfKind kind (complexOf X))) → kind - 1 ≡ dim → length marks.on ≡ 512 → {after : Marks} → MovedMarks marks after seen new → MarksStay dim X marks Y after
+  pub marks-go-along : 2 ≤ kind → kind ≤ 4 → MovedWithin seen new (list_of_kind kind (complex_of X)) (moved seen new (list_of_kind kind (complex_of X))) → kind - 1 ≡ dim → length marks.on ≡ 512 → {after : Marks} → MovedMarks marks after seen new → MarksStay dim X marks Y after
   marks-go-along least most within place full {after = after} goes A marked =
       let e : pred kind ≡ dim = sym (sub-one kind) ∙ place in
-      let there : list_of Y dim ≡ moved seen new (listOfKind kind (complexOf X)) = rw (replaced.is, ← e) (replaced-list kind (moved seen new (listOfKind kind (complexOf X))) (complexOf X) least most) in
+      let there : list_of Y dim ≡ moved seen new (list_of_kind kind (complex_of X)) = rw (replaced.is, ← e) (replaced-list kind (moved seen new (list_of_kind kind (complex_of X))) (complex_of X) least most) in
       subst (λ l. Marked after.on l A) (sym there)
-      (marked-moved marks after seen new (listOfKind kind (complexOf X)) (moved seen new (listOfKind kind (complexOf X))) full within goes A (subst (λ d. Marked marks.on (list_of X d) A) (sym e) marked))
+      (marked-moved marks after seen new (list_of_kind kind (complex_of X)) (moved seen new (list_of_kind kind (complex_of X))) full within goes A (subst (λ d. Marked marks.on (list_of X d) A) (sym e) marked))
 
   -- another list was moved
   pub marks-stand : (kind - 1 ≡ dim → ⊥) → MarksStay dim X marks Y marks
   marks-stand n A =
-      let kept : list_of Y dim ≡ list_of X dim = rw replaced.is (kept-list kind dim (moved seen new (listOfKind kind (complexOf X))) (complexOf X) (λ e. n (sub-one kind ∙ e))) in
+      let kept : list_of Y dim ≡ list_of X dim = rw replaced.is (kept-list kind dim (moved seen new (list_of_kind kind (complex_of X))) (complex_of X) (λ e. n (sub-one kind ∙ e))) in
       subst (λ l. Marked marks.on l A) (sym kept)

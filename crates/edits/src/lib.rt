@@ -1,7 +1,7 @@
 // The edits of a job: each takes one simplex from its seen position to a new one, and A's marks go along with it. Reading
 // an edit and judging it take numbers and a simplex or two, so that no list travels but the one that an edit moves.
 ghost use Rattle.std.specs.Prelude.{◌≡◌, true, ◌<◌, length};
-ghost use Rattle.format.specs.Reading.{editFits};
+ghost use Rattle.format.specs.Reading.{edit_fits};
 ghost use Rattle.lists.specs.declared.Verdict.TheVariants.{Refused};
 ghost use Rattle.edits.specs.Meaning.{Named, Judged, Chosen, EditTaken, EditsTaken};
 
@@ -33,7 +33,7 @@ impl Edit {
 
 // Whether an edit's payload has an allowed list kind, and the length that it asks for.
 fn edit_fits(p: &[u8]) -> bool
-    ensures { result ≡ editFits p.now }
+    ensures { result ≡ edit_fits p.now }
 {
     let kind = records::u16_at(p, 0);
     if kind < SimplexList::EDGES as usize {
@@ -47,7 +47,7 @@ fn edit_fits(p: &[u8]) -> bool
 
 // The edit that a payload of that shape names.
 fn edit_of(p: &[u8]) -> Edit
-    requires { editFits p.now ≡ true }
+    requires { edit_fits p.now ≡ true }
     ensures { Named p.now result }
 {
     let kind = records::u16_at(p, 0);

@@ -3,31 +3,31 @@
 -- else answered with the smallest that has; a class question is answered with the smallest of its class, and never refused.
 use Rattle.std.specs.Prelude.{ℕ, suc, pred, ◌≤◌, ◌≡◌, refl, List, ◌↔◌, get_or, leb}
 use Rattle.std.proofs.Common.{sym, ◌∙◌, ap, subst, arith, leb-true}
-use Rattle.format.specs.Numbers.{Limits, answerKind, refusalKind, rimOpen, noFilling}
+use Rattle.format.specs.Numbers.{Limits, answer_kind, refusal_kind, rim_open, no_filling}
 use Rattle.format.specs.Simplex.{Simplex, SimplexSet, simplices}
-use Rattle.format.specs.Reading.{Job, Question, fill, class, chainDimension, dimensionFits, accepted, reading}
-use Rattle.format.specs.Answer.{refusalRecord, rowDimension, rows, cols, AnswerTo, Answered}
+use Rattle.format.specs.Reading.{Job, Question, fill, class, chain_dimension, dimension_fits, accepted, reading}
+use Rattle.format.specs.Answer.{refusal_record, row_dimension, rows, cols, AnswerTo, Answered}
 use Rattle.format.specs.Listed.{and-true}
 use Rattle.format.specs.Sound.{Within, SoundJob}
 use Rattle.format.specs.Outcome.{answer_of}
 use Rattle.format.specs.Accepted.{accepted-sound}
 use Rattle.format.specs.Unique.{answer-unique}
-use Rattle.format.specs.Sets.{SmallestSet, setRecord, IsRefusal, FillsSet, InClassSet, RimClosed, NoneFills, FillSetAnswer, refused-open, refused-unfilled, filled-by, ClassSetAnswer, SetAnswerTo}
+use Rattle.format.specs.Sets.{SmallestSet, set_record, IsRefusal, FillsSet, InClassSet, RimClosed, NoneFills, FillSetAnswer, refused_open, refused_unfilled, filled_by, ClassSetAnswer, SetAnswerTo}
 use Rattle.format.specs.SetLaws.{record-tells}
 use Rattle.format.specs.SetBoundary.{simplices-wide}
 use Rattle.format.specs.SetAnswers.{fillable-closed, fill-by-sets, fill-by-ranks, class-by-sets, class-by-ranks}
 
 -- THE KINDS differ, so a set's record is no refusal's; and the two refusals' numbers differ.
-set-not-refused : (answer : List ℕ) (d : ℕ) (l : List Simplex) (S : SimplexSet) → answer ≡ setRecord d l S → IsRefusal answer → ⊥
-unfolding setRecord refusalRecord
+set-not-refused : (answer : List ℕ) (d : ℕ) (l : List Simplex) (S : SimplexSet) → answer ≡ set_record d l S → IsRefusal answer → ⊥
+unfolding set_record refusal_record
 set-not-refused answer d l S e r =
-    let z : ◌≡◌ {A = ℕ} answerKind refusalKind = sym (ap (λ x. get_or x 4 0) e) ∙ ap (λ x. get_or x 4 0) r.2 in
+    let z : ◌≡◌ {A = ℕ} answer_kind refusal_kind = sym (ap (λ x. get_or x 4 0) e) ∙ ap (λ x. get_or x 4 0) r.2 in
     omega arith
 
-open-not-unfilled : (answer : List ℕ) → answer ≡ refusalRecord rimOpen 0 → answer ≡ refusalRecord noFilling 0 → ⊥
-unfolding refusalRecord
+open-not-unfilled : (answer : List ℕ) → answer ≡ refusal_record rim_open 0 → answer ≡ refusal_record no_filling 0 → ⊥
+unfolding refusal_record
 open-not-unfilled answer e f =
-    let z : ◌≡◌ {A = ℕ} rimOpen noFilling = sym (ap (λ x. get_or x 6 0) e) ∙ ap (λ x. get_or x 6 0) f in
+    let z : ◌≡◌ {A = ℕ} rim_open no_filling = sym (ap (λ x. get_or x 6 0) e) ∙ ap (λ x. get_or x 6 0) f in
     omega arith
 
 -- WHAT THE PROMISE SAYS of a sound job's answer is what `SetAnswerTo` says of it, for either question.
@@ -65,12 +65,12 @@ module _ (L : Limits) (b : List ℕ) (j : Job) (read : reading L b ≡ accepted 
   pub fill-of-d : j.question ≡ fill → cols j ≡ simplices j.complex j.d
   fill-of-d q =
       let some : 1 ≤ j.d
-      = leb-true 1 j.d (and-true (leb 1 j.d) (leb j.d 3) (ap (λ q. dimensionFits q j.d) (sym q) ∙ sound.dimension)).0 in
+      = leb-true 1 j.d (and-true (leb 1 j.d) (leb j.d 3) (ap (λ q. dimension_fits q j.d) (sym q) ∙ sound.dimension)).0 in
       let same : suc (pred j.d) ≡ j.d = omega arith in
-      ap (λ q. simplices j.complex (suc (chainDimension q j.d))) q ∙ ap (simplices j.complex) same
+      ap (λ q. simplices j.complex (suc (chain_dimension q j.d))) q ∙ ap (simplices j.complex) same
 
   pub class-of-d : j.question ≡ class → rows j ≡ simplices j.complex j.d
-  class-of-d q = ap (λ q. simplices j.complex (chainDimension q j.d)) q
+  class-of-d q = ap (λ q. simplices j.complex (chain_dimension q j.d)) q
 
   module _ (answer : List ℕ) (is : Answered (reading L b) answer) where
     -- A BOUNDARY QUESTION is refused with 12, refused with 13, or answered with the smallest set that has that boundary.
@@ -82,60 +82,60 @@ module _ (L : Limits) (b : List ℕ) (j : Job) (read : reading L b ≡ accepted 
     refused-exactly q = (λ r. none (fill-answered q) r, λ n. refused (fill-answered q) n)
       where
         none : FillSetAnswer j answer → IsRefusal answer → NoneFills j
-        none (refused-open o e) r = λ S f. o (fillable-closed L j sound S f)
-        none (refused-unfilled c n e) r = n
-        none (filled-by S s e) r = absurd (set-not-refused answer j.d (cols j) S e r)
+        none (refused_open o e) r = λ S f. o (fillable-closed L j sound S f)
+        none (refused_unfilled c n e) r = n
+        none (filled_by S s e) r = absurd (set-not-refused answer j.d (cols j) S e r)
 
         refused : FillSetAnswer j answer → NoneFills j → IsRefusal answer
-        refused (refused-open o e) n = (rimOpen, 0, e)
-        refused (refused-unfilled c n' e) n = (noFilling, 0, e)
-        refused (filled-by S s e) n = absurd (n S s.has)
+        refused (refused_open o e) n = (rim_open, 0, e)
+        refused (refused_unfilled c n' e) n = (no_filling, 0, e)
+        refused (filled_by S s e) n = absurd (n S s.has)
 
     -- "12 rim open", given exactly when "the boundary of A is not empty"
-    pub open-exactly : j.question ≡ fill → ((answer ≡ refusalRecord rimOpen 0) ↔ (RimClosed j → ⊥))
+    pub open-exactly : j.question ≡ fill → ((answer ≡ refusal_record rim_open 0) ↔ (RimClosed j → ⊥))
     open-exactly q = (λ e. closes (fill-answered q) e, λ o. opens (fill-answered q) o)
       where
-        closes : FillSetAnswer j answer → answer ≡ refusalRecord rimOpen 0 → RimClosed j → ⊥
-        closes (refused-open o e) g = o
-        closes (refused-unfilled c n e) g = absurd (open-not-unfilled answer g e)
-        closes (filled-by S s e) g = absurd (set-not-refused answer j.d (cols j) S e (rimOpen, 0, g))
+        closes : FillSetAnswer j answer → answer ≡ refusal_record rim_open 0 → RimClosed j → ⊥
+        closes (refused_open o e) g = o
+        closes (refused_unfilled c n e) g = absurd (open-not-unfilled answer g e)
+        closes (filled_by S s e) g = absurd (set-not-refused answer j.d (cols j) S e (rim_open, 0, g))
 
-        opens : FillSetAnswer j answer → (RimClosed j → ⊥) → answer ≡ refusalRecord rimOpen 0
-        opens (refused-open o e) g = e
-        opens (refused-unfilled c n e) g = absurd (g c)
-        opens (filled-by S s e) g = absurd (g (fillable-closed L j sound S s.has))
+        opens : FillSetAnswer j answer → (RimClosed j → ⊥) → answer ≡ refusal_record rim_open 0
+        opens (refused_open o e) g = e
+        opens (refused_unfilled c n e) g = absurd (g c)
+        opens (filled_by S s e) g = absurd (g (fillable-closed L j sound S s.has))
 
     -- "13 no filling", given exactly when "the boundary of A is empty, no d-chain has boundary A"
-    pub unfilled-exactly : j.question ≡ fill → ((answer ≡ refusalRecord noFilling 0) ↔ (RimClosed j × NoneFills j))
+    pub unfilled-exactly : j.question ≡ fill → ((answer ≡ refusal_record no_filling 0) ↔ (RimClosed j × NoneFills j))
     unfilled-exactly q = (λ e. given (fill-answered q) e, λ p. gives (fill-answered q) p)
       where
-        given : FillSetAnswer j answer → answer ≡ refusalRecord noFilling 0 → RimClosed j × NoneFills j
-        given (refused-open o e) g = absurd (open-not-unfilled answer e g)
-        given (refused-unfilled c n e) g = (c, n)
-        given (filled-by S s e) g = absurd (set-not-refused answer j.d (cols j) S e (noFilling, 0, g))
+        given : FillSetAnswer j answer → answer ≡ refusal_record no_filling 0 → RimClosed j × NoneFills j
+        given (refused_open o e) g = absurd (open-not-unfilled answer e g)
+        given (refused_unfilled c n e) g = (c, n)
+        given (filled_by S s e) g = absurd (set-not-refused answer j.d (cols j) S e (no_filling, 0, g))
 
-        gives : FillSetAnswer j answer → RimClosed j × NoneFills j → answer ≡ refusalRecord noFilling 0
-        gives (refused-open o e) p = absurd (o p.0)
-        gives (refused-unfilled c n e) p = e
-        gives (filled-by S s e) p = absurd (p.1 S s.has)
+        gives : FillSetAnswer j answer → RimClosed j × NoneFills j → answer ≡ refusal_record no_filling 0
+        gives (refused_open o e) p = absurd (o p.0)
+        gives (refused_unfilled c n e) p = e
+        gives (filled_by S s e) p = absurd (p.1 S s.has)
 
     -- the answer is a set's record exactly when that set is the smallest that has the boundary
     pub filled-exactly : j.question ≡ fill → (S : SimplexSet) → Within S (cols j)
-        → ((answer ≡ setRecord j.d (cols j) S) ↔ SmallestSet (cols j) (FillsSet j) S)
+        → ((answer ≡ set_record j.d (cols j) S) ↔ SmallestSet (cols j) (FillsSet j) S)
     filled-exactly q S within = (λ e. given (fill-answered q) e, λ s. unique s)
       where
-        given : FillSetAnswer j answer → answer ≡ setRecord j.d (cols j) S → SmallestSet (cols j) (FillsSet j) S
-        given (refused-open o e) g = absurd (set-not-refused answer j.d (cols j) S g (rimOpen, 0, e))
-        given (refused-unfilled c n e) g = absurd (set-not-refused answer j.d (cols j) S g (noFilling, 0, e))
-        given (filled-by T s e) g =
+        given : FillSetAnswer j answer → answer ≡ set_record j.d (cols j) S → SmallestSet (cols j) (FillsSet j) S
+        given (refused_open o e) g = absurd (set-not-refused answer j.d (cols j) S g (rim_open, 0, e))
+        given (refused_unfilled c n e) g = absurd (set-not-refused answer j.d (cols j) S g (no_filling, 0, e))
+        given (filled_by T s e) g =
             subst (SmallestSet (cols j) (FillsSet j))
-            (record-tells j.d (suc (suc (rowDimension j))) (cols j) (omega arith)
-            (simplices-wide L j.complex sound.complex (suc (rowDimension j))) T S s.has.within within (sym e ∙ g)) s
+            (record-tells j.d (suc (suc (row_dimension j))) (cols j) (omega arith)
+            (simplices-wide L j.complex sound.complex (suc (row_dimension j))) T S s.has.within within (sym e ∙ g)) s
 
-        unique : SmallestSet (cols j) (FillsSet j) S → answer ≡ setRecord j.d (cols j) S
+        unique : SmallestSet (cols j) (FillsSet j) S → answer ≡ set_record j.d (cols j) S
         unique s =
-            set-answer-unique answer (setRecord j.d (cols j) S) ((answered-by-sets answer).0 is)
-            (subst (λ q. SetAnswerTo j q (setRecord j.d (cols j) S)) (sym q) (filled-by S s refl))
+            set-answer-unique answer (set_record j.d (cols j) S) ((answered-by-sets answer).0 is)
+            (subst (λ q. SetAnswerTo j q (set_record j.d (cols j) S)) (sym q) (filled_by S s refl))
 
     -- A CLASS QUESTION is answered with the smallest set of the class
     pub class-answered : j.question ≡ class → ClassSetAnswer j answer
@@ -149,17 +149,17 @@ module _ (L : Limits) (b : List ℕ) (j : Job) (read : reading L b ≡ accepted 
 
     -- the answer is a set's record exactly when that set is the smallest of the class
     pub class-exactly : j.question ≡ class → (G : SimplexSet) → Within G (rows j)
-        → ((answer ≡ setRecord j.d (rows j) G) ↔ SmallestSet (rows j) (InClassSet j) G)
+        → ((answer ≡ set_record j.d (rows j) G) ↔ SmallestSet (rows j) (InClassSet j) G)
     class-exactly q G within = (λ e. given (class-answered q) e, λ s. unique s)
       where
-        given : ClassSetAnswer j answer → answer ≡ setRecord j.d (rows j) G → SmallestSet (rows j) (InClassSet j) G
+        given : ClassSetAnswer j answer → answer ≡ set_record j.d (rows j) G → SmallestSet (rows j) (InClassSet j) G
         given a g =
             subst (SmallestSet (rows j) (InClassSet j))
-            (record-tells j.d (suc (rowDimension j)) (rows j) (omega arith)
-            (simplices-wide L j.complex sound.complex (rowDimension j)) a.set G a.smallest.has.within within (sym a.is ∙ g))
+            (record-tells j.d (suc (row_dimension j)) (rows j) (omega arith)
+            (simplices-wide L j.complex sound.complex (row_dimension j)) a.set G a.smallest.has.within within (sym a.is ∙ g))
             a.smallest
 
-        unique : SmallestSet (rows j) (InClassSet j) G → answer ≡ setRecord j.d (rows j) G
+        unique : SmallestSet (rows j) (InClassSet j) G → answer ≡ set_record j.d (rows j) G
         unique s =
-            set-answer-unique answer (setRecord j.d (rows j) G) ((answered-by-sets answer).0 is)
-            (subst (λ q. SetAnswerTo j q (setRecord j.d (rows j) G)) (sym q) (record { set = G; smallest = s; is = refl }))
+            set-answer-unique answer (set_record j.d (rows j) G) ((answered-by-sets answer).0 is)
+            (subst (λ q. SetAnswerTo j q (set_record j.d (rows j) G)) (sym q) (record { set = G; smallest = s; is = refl }))

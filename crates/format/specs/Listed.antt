@@ -3,7 +3,7 @@
 use Rattle.std.specs.Prelude.{ℕ, zero, suc, ◌+◌, ◌≤◌, ◌<◌, ◌≡◌, refl, Bool, true, false, ◌&&◌, ◌||◌, cond, List, [], ◌∷◌, ◌++◌, map, length, get_or, eqb}
 use Rattle.std.proofs.Common.{sym, ◌∙◌, ap, ap₂, subst, append-nil, arith, eqb-true, eq-eqb}
 use Rattle.std.proofs.Math.Seq.{get_or-append_seam}
-use Rattle.format.specs.Simplex.{Simplex, same, Rank, ranked, unlisted, rankFrom, rank, listed, allListed}
+use Rattle.format.specs.Simplex.{Simplex, same, Rank, ranked, unlisted, rank_from, rank, listed, all_listed}
 
 pub true-not-false : {A : Type 0} (b : Bool) → b ≡ true → b ≡ false → A
 true-not-false b p q = let z : ◌≡◌ {A = ℕ} 0 1 = cc in absurd (omega arith)
@@ -32,13 +32,13 @@ pub record StandsAt (s : Simplex) (l : List Simplex) (i : ℕ) : Type 0 where
   pub below : i < length l
   pub here : get_or l i [] ≡ s
 
-stands_from : (k : ℕ) (s : Simplex) (l : List Simplex) (i : ℕ) → rankFrom k s l ≡ ranked i → (j : ℕ) × (i ≡ k + j) × StandsAt s l j
-unfolding rankFrom
+stands_from : (k : ℕ) (s : Simplex) (l : List Simplex) (i : ℕ) → rank_from k s l ≡ ranked i → (j : ℕ) × (i ≡ k + j) × StandsAt s l j
+unfolding rank_from
 stands_from k s [] i e = let z : ◌≡◌ {A = ℕ} 0 1 = cc in absurd (omega arith)
 stands_from k s (t ∷ l) i e = go (same s t) refl e (stands_from (suc k) s l i)
   where
-    go : (x : Bool) → same s t ≡ x → cond x (ranked k) (rankFrom (suc k) s l) ≡ ranked i
-        → (rankFrom (suc k) s l ≡ ranked i → (j : ℕ) × (i ≡ suc k + j) × StandsAt s l j)
+    go : (x : Bool) → same s t ≡ x → cond x (ranked k) (rank_from (suc k) s l) ≡ ranked i
+        → (rank_from (suc k) s l ≡ ranked i → (j : ℕ) × (i ≡ suc k + j) × StandsAt s l j)
         → (j : ℕ) × (i ≡ k + j) × StandsAt s (t ∷ l) j
     go true p q ih =
         let found : k ≡ i = cc in
@@ -54,16 +54,16 @@ rank-stands s l i e =
     subst (StandsAt s l) (sym here) found.2
 
 -- A simplex is listed exactly where its look-up finds a rank.
-unfoldable pub isRanked : Rank → Bool
-isRanked (ranked i) = true
-isRanked unlisted = false
+unfoldable pub is_ranked : Rank → Bool
+is_ranked (ranked i) = true
+is_ranked unlisted = false
 
-pub listed-ranked : (k : ℕ) (s : Simplex) (l : List Simplex) → listed s l ≡ isRanked (rankFrom k s l)
-unfolding listed rankFrom isRanked
+pub listed-ranked : (k : ℕ) (s : Simplex) (l : List Simplex) → listed s l ≡ is_ranked (rank_from k s l)
+unfolding listed rank_from is_ranked
 listed-ranked k s [] = refl
 listed-ranked k s (t ∷ l) = go (same s t) (listed-ranked (suc k) s l)
   where
-    go : (x : Bool) → listed s l ≡ isRanked (rankFrom (suc k) s l)
-        → x || listed s l ≡ isRanked (cond x (ranked k) (rankFrom (suc k) s l))
+    go : (x : Bool) → listed s l ≡ is_ranked (rank_from (suc k) s l)
+        → x || listed s l ≡ is_ranked (cond x (ranked k) (rank_from (suc k) s l))
     go true ih = refl
     go false ih = ih

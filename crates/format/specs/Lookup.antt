@@ -3,7 +3,7 @@
 use Rattle.std.specs.Prelude.{ℕ, zero, suc, ◌+◌, ◌<◌, ◌≡◌, refl, Bool, true, false, ◌&&◌, ◌||◌, cond, List, [], ◌∷◌, ◌++◌, get_or}
 use Rattle.std.proofs.Common.{add-zero, le_of_suc-le-suc, not-suc-le-zero, zero-lt-suc, arith, sym, ap}
 use Rattle.std.proofs.Math.Bool.{or_assoc, and_assoc, or-true}
-use Rattle.format.specs.Simplex.{Simplex, same, Rank, ranked, unlisted, rankFrom, rank, listed, allListed}
+use Rattle.format.specs.Simplex.{Simplex, same, Rank, ranked, unlisted, rank_from, rank, listed, all_listed}
 use Rattle.format.specs.Listed.{same_refl, same-equal, StandsAt}
 
 -- what differs is not the same
@@ -27,21 +27,21 @@ shifted-suc : (k : ℕ) (r : Rank) → shifted (suc k) r ≡ shifted k (shifted 
 shifted-suc k (ranked i) = ap ranked (omega arith)
 shifted-suc k unlisted = refl
 
-pub rankFrom-shifted : (k : ℕ) (s : Simplex) (l : List Simplex) → rankFrom k s l ≡ shifted k (rank s l)
-unfolding rankFrom
-rankFrom-shifted k s [] = refl
-rankFrom-shifted k s (t ∷ l) =
-    rw (rankFrom-shifted (suc k) s l, rankFrom-shifted 1 s l, shifted-suc k (rank s l), ← shifted-cond, add-zero)
+pub rank_from-shifted : (k : ℕ) (s : Simplex) (l : List Simplex) → rank_from k s l ≡ shifted k (rank s l)
+unfolding rank_from
+rank_from-shifted k s [] = refl
+rank_from-shifted k s (t ∷ l) =
+    rw (rank_from-shifted (suc k) s l, rank_from-shifted 1 s l, shifted-suc k (rank s l), ← shifted-cond, add-zero)
 
 -- the first place that holds the simplex is its rank
 pub first-ranked : (s : Simplex) (l : List Simplex) (i : ℕ) → StandsAt s l i → ((j : ℕ) → j < i → get_or l j [] ≡ s → ⊥) → rank s l ≡ ranked i
-unfolding rankFrom
+unfolding rank_from
 first-ranked s [] i h before = absurd (not-suc-le-zero h.below)
 first-ranked s (t ∷ l) zero h before = rw (h.here, same_refl s)
 first-ranked s (t ∷ l) (suc i) h before =
     let later : rank s l ≡ ranked i =
     first-ranked s l i (record { below = le_of_suc-le-suc h.below; here = h.here }) (λ j below. before (suc j) (omega arith)) in
-    rw (differ_same s t (λ e. before 0 (zero-lt-suc i) (sym e)), rankFrom-shifted 1 s l, later) (ap ranked (omega arith))
+    rw (differ_same s t (λ e. before 0 (zero-lt-suc i) (sym e)), rank_from-shifted 1 s l, later) (ap ranked (omega arith))
 
 -- what stands in a list is listed
 pub stands-listed : (s : Simplex) (l : List Simplex) (i : ℕ) → StandsAt s l i → listed s l ≡ true
@@ -57,7 +57,7 @@ unfolding listed
 listed-append s [] m = refl
 listed-append s (t ∷ l) m = rw (listed-append s l m, or_assoc)
 
-pub allListed-append : (r q l : List Simplex) → allListed (r ++ q) l ≡ (allListed r l && allListed q l)
-unfolding allListed
-allListed-append [] q l = refl
-allListed-append (s ∷ r) q l = rw (allListed-append r q l, and_assoc)
+pub all_listed-append : (r q l : List Simplex) → all_listed (r ++ q) l ≡ (all_listed r l && all_listed q l)
+unfolding all_listed
+all_listed-append [] q l = refl
+all_listed-append (s ∷ r) q l = rw (all_listed-append r q l, and_assoc)

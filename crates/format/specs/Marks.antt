@@ -3,41 +3,41 @@
 use Rattle.std.specs.Prelude.{ℕ, zero, suc, ◌+◌, ◌≤◌, ◌<◌, ◌≡◌, refl, Bool, true, false, not, ◌&&◌, ◌||◌, cond, List, [], ◌∷◌, ◌++◌, map, length, get_or, eqb, leb, ltb}
 use Rattle.std.proofs.Common.{sym, ◌∙◌, ap, ap₂, subst, arith, eq-eqb, ne_eqb, ltb-true}
 use Rattle.std.proofs.Math.Decide.{ℕ_discrete}
-use Rattle.format.specs.Numbers.{Limits, chainItem}
-use Rattle.format.specs.Simplex.{Simplex, Complex, same, rank, ranked, listed, all_below, simplices, vertexList}
-use Rattle.format.specs.Reading.{Reading, accepted, refused, refuseIf, ◌andThen◌, risingBelow, named, readSteps}
+use Rattle.format.specs.Numbers.{Limits, chain_item}
+use Rattle.format.specs.Simplex.{Simplex, Complex, same, rank, ranked, listed, all_below, simplices, vertex_list}
+use Rattle.format.specs.Reading.{Reading, accepted, refused, refuse_if, ◌and_then◌, rising_below, named, read_steps}
 use Rattle.format.specs.Listed.{true-not-false, and-true, same_refl, same-equal, rank-stands}
 use Rattle.format.specs.Lookup.{differ_same}
 use Rattle.format.specs.Sound.{copies, copies-append, unlisted-copies, one_place, SoundComplex}
 
 -- CHECKS IN A ROW. A reading that hands back what it was given is its checks, and then what follows.
-unfoldable pub checkPositions : {A : Type 0} (count at least : ℕ) → List ℕ → Reading A → Reading A
-checkPositions count at least [] next = next
-checkPositions count at least (p ∷ ps) next =
-    refuseIf (ltb p least || leb count p) chainItem at (checkPositions count (at + 2) (suc p) ps next)
+unfoldable pub check_positions : {A : Type 0} (count at least : ℕ) → List ℕ → Reading A → Reading A
+check_positions count at least [] next = next
+check_positions count at least (p ∷ ps) next =
+    refuse_if (ltb p least || leb count p) chain_item at (check_positions count (at + 2) (suc p) ps next)
 
-pub positions-then : {A : Type 0} (count at least : ℕ) (ps : List ℕ) (f : List ℕ → Reading A) → risingBelow count at least ps and_then f ≡ checkPositions count at least ps (f ps)
-unfolding risingBelow checkPositions
+pub positions-then : {A : Type 0} (count at least : ℕ) (ps : List ℕ) (f : List ℕ → Reading A) → rising_below count at least ps and_then f ≡ check_positions count at least ps (f ps)
+unfolding rising_below check_positions
 positions-then count at least [] f = refl
-positions-then count at least (p ∷ ps) f = go (ltb p least || leb count p) (positions-then count (at + 2) (suc p) ps (λ rest. f (p ∷ rest))) (risingBelow count (at + 2) (suc p) ps) refl
+positions-then count at least (p ∷ ps) f = go (ltb p least || leb count p) (positions-then count (at + 2) (suc p) ps (λ rest. f (p ∷ rest))) (rising_below count (at + 2) (suc p) ps) refl
   where
-    go : (x : Bool) → risingBelow count (at + 2) (suc p) ps and_then (λ rest. f (p ∷ rest)) ≡ checkPositions count (at + 2) (suc p) ps (f (p ∷ ps)) → (r : Reading (List ℕ)) → risingBelow count (at + 2) (suc p) ps ≡ r
-        → refuseIf x chainItem at (r and_then λ rest. accepted (p ∷ rest)) and_then f ≡ refuseIf x chainItem at (checkPositions count (at + 2) (suc p) ps (f (p ∷ ps)))
+    go : (x : Bool) → rising_below count (at + 2) (suc p) ps and_then (λ rest. f (p ∷ rest)) ≡ check_positions count (at + 2) (suc p) ps (f (p ∷ ps)) → (r : Reading (List ℕ)) → rising_below count (at + 2) (suc p) ps ≡ r
+        → refuse_if x chain_item at (r and_then λ rest. accepted (p ∷ rest)) and_then f ≡ refuse_if x chain_item at (check_positions count (at + 2) (suc p) ps (f (p ∷ ps)))
     go true ih r e = refl
     go false ih (accepted rest) e = ap (λ x. x and_then (λ rest. f (p ∷ rest))) (sym e) ∙ ih
     go false ih (refused n q) e = ap (λ x. x and_then (λ rest. f (p ∷ rest))) (sym e) ∙ ih
 
-unfoldable pub checkSteps : {A : Type 0} (edges : List Simplex) (at : ℕ) → List Simplex → Reading A → Reading A
-checkSteps edges at [] next = next
-checkSteps edges at (s ∷ rest) next = refuseIf (not (listed s edges)) chainItem at (checkSteps edges (at + 1) rest next)
+unfoldable pub check_steps : {A : Type 0} (edges : List Simplex) (at : ℕ) → List Simplex → Reading A → Reading A
+check_steps edges at [] next = next
+check_steps edges at (s ∷ rest) next = refuse_if (not (listed s edges)) chain_item at (check_steps edges (at + 1) rest next)
 
-pub steps_then : {A : Type 0} (edges : List Simplex) (at : ℕ) (walk : List Simplex) (f : List Simplex → Reading A) → readSteps edges at walk and_then f ≡ checkSteps edges at walk (f walk)
-unfolding readSteps checkSteps
+pub steps_then : {A : Type 0} (edges : List Simplex) (at : ℕ) (walk : List Simplex) (f : List Simplex → Reading A) → read_steps edges at walk and_then f ≡ check_steps edges at walk (f walk)
+unfolding read_steps check_steps
 steps_then edges at [] f = refl
-steps_then edges at (s ∷ walk) f = go (not (listed s edges)) (steps_then edges (at + 1) walk (λ rest. f (s ∷ rest))) (readSteps edges (at + 1) walk) refl
+steps_then edges at (s ∷ walk) f = go (not (listed s edges)) (steps_then edges (at + 1) walk (λ rest. f (s ∷ rest))) (read_steps edges (at + 1) walk) refl
   where
-    go : (x : Bool) → readSteps edges (at + 1) walk and_then (λ rest. f (s ∷ rest)) ≡ checkSteps edges (at + 1) walk (f (s ∷ walk)) → (r : Reading (List Simplex)) → readSteps edges (at + 1) walk ≡ r
-        → refuseIf x chainItem at (r and_then λ rest. accepted (s ∷ rest)) and_then f ≡ refuseIf x chainItem at (checkSteps edges (at + 1) walk (f (s ∷ walk)))
+    go : (x : Bool) → read_steps edges (at + 1) walk and_then (λ rest. f (s ∷ rest)) ≡ check_steps edges (at + 1) walk (f (s ∷ walk)) → (r : Reading (List Simplex)) → read_steps edges (at + 1) walk ≡ r
+        → refuse_if x chain_item at (r and_then λ rest. accepted (s ∷ rest)) and_then f ≡ refuse_if x chain_item at (check_steps edges (at + 1) walk (f (s ∷ walk)))
     go true ih r e = refl
     go false ih (accepted rest) e = ap (λ x. x and_then (λ rest. f (s ∷ rest))) (sym e) ∙ ih
     go false ih (refused n q) e = ap (λ x. x and_then (λ rest. f (s ∷ rest))) (sym e) ∙ ih
@@ -47,25 +47,25 @@ abbrev pub Once : List Simplex → Type 0
 Once l = (s : Simplex) → copies s l ≤ 1
 
 -- what is listed among the vertices is a vertex below v
-pub vertex-below : (v : ℕ) (s : Simplex) → 1 ≤ copies s (vertexList v) → (a : ℕ) × (a < v) × (s ≡ a ∷ [])
-unfolding vertexList copies
+pub vertex-below : (v : ℕ) (s : Simplex) → 1 ≤ copies s (vertex_list v) → (a : ℕ) × (a < v) × (s ≡ a ∷ [])
+unfolding vertex_list copies
 vertex-below zero s h = absurd (omega arith)
 vertex-below (suc v) s h = go (same s (v ∷ [])) refl (vertex-below v s)
   where
-    go : (x : Bool) → same s (v ∷ []) ≡ x → (1 ≤ copies s (vertexList v) → (a : ℕ) × (a < v) × (s ≡ a ∷ [])) → (a : ℕ) × (a < suc v) × (s ≡ a ∷ [])
+    go : (x : Bool) → same s (v ∷ []) ≡ x → (1 ≤ copies s (vertex_list v) → (a : ℕ) × (a < v) × (s ≡ a ∷ [])) → (a : ℕ) × (a < suc v) × (s ≡ a ∷ [])
     go true e ih = (v, omega arith, same-equal s (v ∷ []) e)
     go false e ih =
         let n : copies s ((v ∷ []) ∷ []) ≡ 0 = rw e (omega arith) in
-        let it = ih (omega (arith, copies-append s (vertexList v) ((v ∷ []) ∷ []))) in
+        let it = ih (omega (arith, copies-append s (vertex_list v) ((v ∷ []) ∷ []))) in
         (it.0, omega (arith, it.1), it.2)
 
-pub vertices-once : (v : ℕ) → Once (vertexList v)
-unfolding vertexList copies
+pub vertices-once : (v : ℕ) → Once (vertex_list v)
+unfolding vertex_list copies
 vertices-once zero s = omega arith
 vertices-once (suc v) s =
-    subst (λ n. n ≤ 1) (sym (copies-append s (vertexList v) ((v ∷ []) ∷ []))) (go (same s (v ∷ [])) refl (copies s (vertexList v)) refl (vertices-once v s))
+    subst (λ n. n ≤ 1) (sym (copies-append s (vertex_list v) ((v ∷ []) ∷ []))) (go (same s (v ∷ [])) refl (copies s (vertex_list v)) refl (vertices-once v s))
   where
-    go : (x : Bool) → same s (v ∷ []) ≡ x → (n : ℕ) → copies s (vertexList v) ≡ n → n ≤ 1 → n + (cond x 1 0 + 0) ≤ 1
+    go : (x : Bool) → same s (v ∷ []) ≡ x → (n : ℕ) → copies s (vertex_list v) ≡ n → n ≤ 1 → n + (cond x 1 0 + 0) ≤ 1
     go x e zero z h = few x
       where
         few : (x : Bool) → 0 + (cond x 1 0 + 0) ≤ 1

@@ -10,9 +10,9 @@ use Rattle.std.proofs.Math.Seq.{append_snoc}
 use Rattle.std.proofs.lemmas.Bool.{lt-leb}
 use Rattle.format.specs.Numbers.{Limits}
 use Rattle.format.specs.Simplex.{Simplex, SimplexSet, all_below, same, listed}
-use Rattle.format.specs.Reading.{accepted, items, items_of, readItems, listFits, risingBelow, named}
-use Rattle.format.specs.Answer.{verticesOf}
-use Rattle.format.specs.Writing.{placesFrom}
+use Rattle.format.specs.Reading.{accepted, items, items_of, read_items, list_fits, rising_below, named}
+use Rattle.format.specs.Answer.{vertices_of}
+use Rattle.format.specs.Writing.{places_from}
 use Rattle.format.specs.Listed.{same_refl, same-equal}
 use Rattle.format.specs.Lookup.{listed-append}
 use Rattle.format.specs.Sound.{copies, SoundList, Within}
@@ -29,30 +29,30 @@ wide-rest : (width : ℕ) (s : Simplex) (l : List Simplex) → Wide width (s ∷
 unfolding listed
 wide-rest width s l wide t e = wide t (rw (e, or-true))
 
-pub length-verticesOf : (width : ℕ) (l : List Simplex) → Wide width l → length (verticesOf l) ≡ width * length l
-unfolding verticesOf
-length-verticesOf width [] wide = sym (mul-zero width)
-length-verticesOf width (s ∷ l) wide =
-    omega (arith, length-append s (verticesOf l), wide-first width s l wide, length-verticesOf width l (wide-rest width s l wide), mul-suc width (length l))
+pub length-vertices_of : (width : ℕ) (l : List Simplex) → Wide width l → length (vertices_of l) ≡ width * length l
+unfolding vertices_of
+length-vertices_of width [] wide = sym (mul-zero width)
+length-vertices_of width (s ∷ l) wide =
+    omega (arith, length-append s (vertices_of l), wide-first width s l wide, length-vertices_of width l (wide-rest width s l wide), mul-suc width (length l))
 
-items_back : (width : ℕ) (l : List Simplex) → Wide width l → items width (length l) (verticesOf l) ≡ l
-unfolding verticesOf items
+items_back : (width : ℕ) (l : List Simplex) → Wide width l → items width (length l) (vertices_of l) ≡ l
+unfolding vertices_of items
 items_back width [] wide = refl
 items_back width (s ∷ l) wide =
     let w : length s ≡ width = wide-first width s l wide in
-    rw (take_at s (verticesOf l) width w, drop_at s (verticesOf l) width w, items_back width l (wide-rest width s l wide))
+    rw (take_at s (vertices_of l) width w, drop_at s (vertices_of l) width w, items_back width l (wide-rest width s l wide))
 
 -- they are cut apart as they were
-pub list_back : (width : ℕ) (l : List Simplex) → 0 < width → Wide width l → items_of width (verticesOf l) ≡ l
+pub list_back : (width : ℕ) (l : List Simplex) → 0 < width → Wide width l → items_of width (vertices_of l) ≡ l
 list_back width l some wide =
-    let count : length (verticesOf l) / width ≡ length l =
-    ap (λ n. n / width) (length-verticesOf width l wide) ∙ mul-div_cancel_left (length l) some in
-    ap (λ n. items width n (verticesOf l)) count ∙ items_back width l wide
+    let count : length (vertices_of l) / width ≡ length l =
+    ap (λ n. n / width) (length-vertices_of width l wide) ∙ mul-div_cancel_left (length l) some in
+    ap (λ n. items width n (vertices_of l)) count ∙ items_back width l wide
 
 -- and have an allowed length where the list is not too long
-pub list-fits : (L : Limits) (width : ℕ) (l : List Simplex) → Wide width l → length l ≤ L.simplices → listFits L width (verticesOf l) ≡ true
+pub list-fits : (L : Limits) (width : ℕ) (l : List Simplex) → Wide width l → length l ≤ L.simplices → list_fits L width (vertices_of l) ≡ true
 list-fits L width l wide few =
-    rw (length-verticesOf width l wide, mul-mod_right, le-leb (width * length l) (width * L.simplices) (mul-le-mul_left width few))
+    rw (length-vertices_of width l wide, mul-mod_right, le-leb (width * length l) (width * L.simplices) (mul-le-mul_left width few))
 
 -- ITEM BY ITEM. A simplex that stood before as well would stand twice.
 here-once : (s : Simplex) (before rest : List Simplex) → 1 ≤ copies s (before ++ s ∷ rest)
@@ -72,41 +72,41 @@ not-before s (t ∷ before) rest once = go (same s t) once (not-before s before 
 
 -- a sound list passes, its items read in order
 pub items-accepted : (width v : ℕ) (faces : List Simplex) (at : ℕ) (before rest : List Simplex) →
-    SoundList width v faces (before ++ rest) → readItems width v faces at before rest ≡ accepted (before ++ rest)
-unfolding readItems listed
+    SoundList width v faces (before ++ rest) → read_items width v faces at before rest ≡ accepted (before ++ rest)
+unfolding read_items listed
 items-accepted width v faces at before [] sound = rw append-nil
 items-accepted width v faces at before (s ∷ rest) sound =
     let here : listed s (before ++ s ∷ rest) ≡ true = rw (listed-append s before (s ∷ rest), same_refl s, or-true) in
-    let later : readItems width v faces (at + width) (before ++ (s ∷ [])) rest ≡ accepted (before ++ s ∷ rest) =
+    let later : read_items width v faces (at + width) (before ++ (s ∷ [])) rest ≡ accepted (before ++ s ∷ rest) =
     rw append_snoc at (items-accepted width v faces (at + width) (before ++ (s ∷ [])) rest (rw append_snoc sound)) in
     rw (sound.sound s here, not-before s before rest (sound.once s), sound.closed s here, later)
 
 -- CHAIN A. The places of what is chosen rise, are places of the list, and are no more than it has.
 pub places-rising : (marks : List Bool) (count at least i : ℕ) → least ≤ i → i + length marks ≤ count →
-    risingBelow count at least (placesFrom i marks) ≡ accepted (placesFrom i marks)
-unfolding risingBelow placesFrom
+    rising_below count at least (places_from i marks) ≡ accepted (places_from i marks)
+unfolding rising_below places_from
 places-rising [] count at least i from upto = refl
 places-rising (true ∷ marks) count at least i from upto =
     rw (le-ltb i least from, lt-leb count i (omega arith), places-rising marks count (at + 2) (suc i) (suc i) (omega arith) (omega arith))
 places-rising (false ∷ marks) count at least i from upto =
     places-rising marks count at least (suc i) (omega arith) (omega arith)
 
-pub places-below : (n : ℕ) (marks : List Bool) (i : ℕ) → i + length marks ≤ n → all_below n (placesFrom i marks) ≡ true
-unfolding placesFrom all_below
+pub places-below : (n : ℕ) (marks : List Bool) (i : ℕ) → i + length marks ≤ n → all_below n (places_from i marks) ≡ true
+unfolding places_from all_below
 places-below n [] i upto = refl
 places-below n (true ∷ marks) i upto = rw (lt-ltb i n (omega arith), places-below n marks (suc i) (omega arith))
 places-below n (false ∷ marks) i upto = places-below n marks (suc i) (omega arith)
 
-pub places-few : (marks : List Bool) (i : ℕ) → length (placesFrom i marks) ≤ length marks
-unfolding placesFrom
+pub places-few : (marks : List Bool) (i : ℕ) → length (places_from i marks) ≤ length marks
+unfolding places_from
 places-few [] i = omega arith
 places-few (true ∷ marks) i = omega (arith, places-few marks (suc i))
 places-few (false ∷ marks) i = omega (arith, places-few marks (suc i))
 
 -- What stands at the places of A's members: the listed simplices that A holds. `f` gives the simplex at a place.
 at_places : (A : SimplexSet) (s : Simplex) (f : ℕ → Simplex) (l : List Simplex) (i : ℕ) → ((k : ℕ) → k < length l → f (i + k) ≡ get_or l k []) →
-    listed s (map f (placesFrom i (map A l))) ≡ (listed s l && A s)
-unfolding placesFrom listed
+    listed s (map f (places_from i (map A l))) ≡ (listed s l && A s)
+unfolding places_from listed
 at_places A s f [] i stands = refl
 at_places A s f (t ∷ l) i stands =
     go (A t) (same s t) refl refl (at_places A s f l (suc i) (λ k below. ap f (up k) ∙ stands (suc k) (omega arith)))
@@ -117,15 +117,15 @@ at_places A s f (t ∷ l) i stands =
     up : (k : ℕ) → suc i + k ≡ i + suc k
     up k = omega arith
 
-    go : (x y : Bool) → A t ≡ x → same s t ≡ y → listed s (map f (placesFrom (suc i) (map A l))) ≡ (listed s l && A s) →
-        listed s (map f (placesFrom i (x ∷ map A l))) ≡ ((y || listed s l) && A s)
+    go : (x y : Bool) → A t ≡ x → same s t ≡ y → listed s (map f (places_from (suc i) (map A l))) ≡ (listed s l && A s) →
+        listed s (map f (places_from i (x ∷ map A l))) ≡ ((y || listed s l) && A s)
     go true true held e rest = rw (first, e) (sym (ap A (same-equal s t e) ∙ held))
     go true false held e rest = rw (first, e) rest
     go false true held e rest = rest ∙ rw (ap A (same-equal s t e) ∙ held, and-false)
     go false false held e rest = rest
 
 -- A set of listed simplices is what its own places name.
-pub named_back : (A : SimplexSet) (l : List Simplex) → Within A l → named l (placesFrom 0 (map A l)) ≡ A
+pub named_back : (A : SimplexSet) (l : List Simplex) → Within A l → named l (places_from 0 (map A l)) ≡ A
 named_back A l within = fun_ext λ s. at_places A s (λ i. get_or l i []) l 0 (λ k below. rw zero-add) ∙ held s (A s) refl
   where
     held : (s : Simplex) (x : Bool) → A s ≡ x → (listed s l && A s) ≡ A s

@@ -3,26 +3,26 @@
 use Rattle.std.specs.Prelude.{ℕ, ◌/◌, ◌%◌, ◌^◌, ◌≤◌, ◌<◌, ◌≡◌, List, length}
 use Rattle.std.proofs.Common.{arith, subst}
 use Rattle.format.specs.Numbers.{small, room}
-use Rattle.format.specs.Reading.{Job, accepted, refused, reading, u16At, u32_at}
-use Rattle.format.specs.Answer.{refusalRecord}
-use Rattle.format.specs.Writing.{normalForm}
-use Rattle.format.specs.Promise.{twoNumbers, WrittenJob, too_short, written, Written, WritePromise}
+use Rattle.format.specs.Reading.{Job, accepted, refused, reading, u16_at, u32_at}
+use Rattle.format.specs.Answer.{refusal_record}
+use Rattle.format.specs.Writing.{normal_form}
+use Rattle.format.specs.Promise.{two_numbers, WrittenJob, too_short, written, Written, WritePromise}
 use Rattle.format.specs.Sound.{small-consistent}
 use Rattle.format.specs.Rewritten.{written-fits}
 use Rattle.format.specs.Places.{reading-refused}
 
 -- the two numbers that a result holds
-abbrev pub upperOf : ℕ → ℕ
-upperOf result = result / 2 ^ 32
+abbrev pub upper_of : ℕ → ℕ
+upper_of result = result / 2 ^ 32
 
-abbrev pub lowerOf : ℕ → ℕ
-lowerOf result = result % 2 ^ 32
+abbrev pub lower_of : ℕ → ℕ
+lower_of result = result % 2 ^ 32
 
 pub record Holds (result upper lower : ℕ) : Type 0 where
-  pub above : upperOf result ≡ upper
-  pub below : lowerOf result ≡ lower
+  pub above : upper_of result ≡ upper
+  pub below : lower_of result ≡ lower
 
-apart : (result upper lower : ℕ) → lower < 2 ^ 32 → result ≡ twoNumbers upper lower → Holds result upper lower
+apart : (result upper lower : ℕ) → lower < 2 ^ 32 → result ≡ two_numbers upper lower → Holds result upper lower
 apart result upper lower low e = record { above = omega arith; below = omega arith }
 
 -- THE WRITE CALL. Whatever it leaves behind, the upper number is the refusal's, 1 to 11 or 14, and 0 only where the normal form
@@ -38,21 +38,21 @@ module _ (job out : List ℕ) (result : ℕ) (out' : List ℕ) (kept : WriteProm
     is-written : WrittenJob j out result out'
     is-written = subst (λ r. Written r out result out') read kept
 
-    pub short-told : length out < length (normalForm j) → Holds result room 0
+    pub short-told : length out < length (normal_form j) → Holds result room 0
     short-told short = go is-written
       where
         go : WrittenJob j out result out' → Holds result room 0
         go (too_short l e f) = apart result room 0 (omega arith) e
         go (written l e f) = absurd (omega arith)
 
-    pub length-told : length (normalForm j) ≤ length out → Holds result 0 (length (normalForm j))
+    pub length-told : length (normal_form j) ≤ length out → Holds result 0 (length (normal_form j))
     length-told fits = go is-written
       where
-        go : WrittenJob j out result out' → Holds result 0 (length (normalForm j))
+        go : WrittenJob j out result out' → Holds result 0 (length (normal_form j))
         go (too_short l e f) = absurd (omega arith)
-        go (written l e f) = apart result 0 (length (normalForm j)) (omega (arith, written-fits small small-consistent job j read)) e
+        go (written l e f) = apart result 0 (length (normal_form j)) (omega (arith, written-fits small small-consistent job j read)) e
 
 -- A REFUSAL'S RECORD, read as document 01 lays it out: the number behind the header, and then the place.
-pub refusal-read : (n p : ℕ) → n < 65536 → p < 4294967296 → (u16At (refusalRecord n p) 6 ≡ n) × (u32_at (refusalRecord n p) 8 ≡ p)
-unfolding refusalRecord
+pub refusal-read : (n p : ℕ) → n < 65536 → p < 4294967296 → (u16_at (refusal_record n p) 6 ≡ n) × (u32_at (refusal_record n p) 8 ≡ p)
+unfolding refusal_record
 refusal-read n p number place = (omega arith, omega arith)

@@ -4,15 +4,15 @@ use Rattle.std.specs.Prelude.{ℕ, zero, suc, pred, ◌+◌, ◌*◌, ◌/◌, �
 use Rattle.std.proofs.Common.{sym, ◌∙◌, ap, ap₂, subst, append_assoc, append-nil, inl, inr, arith, le_of_suc-le-suc, not-suc-le-zero, take-append-drop, length-take, length-drop, lit≤, eqb-true, leb-true, leb-false, ltb-true, ltb-false}
 use Rattle.std.proofs.Math.Bool.{or-true, or-false}
 use Rattle.std.proofs.lemmas.Bool.{not-true, not-false}
-use Rattle.format.specs.Numbers.{Limits, small, edgesKind, trianglesKind, tetrahedraKind, vertex, twice, face}
-use Rattle.format.specs.Simplex.{Simplex, SimplexSet, Complex, soundSimplex, facets, same, listed, allListed, simplices, vertexList}
-use Rattle.format.specs.Reading.{Reading, accepted, refused, refuseIf, ◌andThen◌, Head, Question, Record, Listing, Chosen, Job, Header, recordAt, recordFrom, header_at, readItems, items, items_of, owedFacets, readList, listFits, moved, without, with_list, listOfKind, edited, readEdits, readHead, head_of, headSound, dimensionFits, chainDimension, readChain, chosenBy, risingBelow, positionsOf, named, readSteps, steps, walkChain, afterLists, after_head, reading}
+use Rattle.format.specs.Numbers.{Limits, small, edges_kind, triangles_kind, tetrahedra_kind, vertex, twice, face}
+use Rattle.format.specs.Simplex.{Simplex, SimplexSet, Complex, sound_simplex, facets, same, listed, all_listed, simplices, vertex_list}
+use Rattle.format.specs.Reading.{Reading, accepted, refused, refuse_if, ◌and_then◌, Head, Question, Record, Listing, Chosen, Job, Header, record_at, record_from, header_at, read_items, items, items_of, owed_facets, read_list, list_fits, moved, without, with_list, list_of_kind, edited, read_edits, read_head, head_of, head_sound, dimension_fits, chain_dimension, read_chain, chosen_by, rising_below, positions_of, named, read_steps, steps, walk_chain, after_lists, after_head, reading}
 use Rattle.format.specs.Listed.{true-not-false, and-true, same_refl, same-equal}
 use Rattle.format.specs.Lookup.{listed-append}
 use Rattle.format.specs.Moves.{split_one, length_moved, listed-moved}
 
 -- ACCEPTED IN PARTS: a chain of readings is accepted only if each part is.
-pub not-refused : {A : Type 0} (t : Bool) (n p : ℕ) (next : Reading A) (a : A) → refuseIf t n p next ≡ accepted a → (t ≡ false) × (next ≡ accepted a)
+pub not-refused : {A : Type 0} (t : Bool) (n p : ℕ) (next : Reading A) (a : A) → refuse_if t n p next ≡ accepted a → (t ≡ false) × (next ≡ accepted a)
 not-refused true n p next a e = let z : ◌≡◌ {A = ℕ} 0 1 = cc in absurd (omega arith)
 not-refused false n p next a e = (refl, e)
 
@@ -73,13 +73,13 @@ one_place s (t ∷ l) once (suc i) (suc j) hi hj ei ej =
 
 -- each listed simplex is as rule 6 wants it
 abbrev pub AllSound : ℕ → List Simplex → Type 0
-AllSound v l = (s : Simplex) → listed s l ≡ true → soundSimplex v s ≡ true
+AllSound v l = (s : Simplex) → listed s l ≡ true → sound_simplex v s ≡ true
 
 -- A LIST as rules 6, 7 and 8 want it. What is said of its members does not depend on their order.
 pub record SoundList (width v : ℕ) (faces l : List Simplex) : Type 0 where
   pub wide : (s : Simplex) → listed s l ≡ true → length s ≡ width
   pub sound : AllSound v l
-  pub closed : (s : Simplex) → listed s l ≡ true → allListed (owedFacets width s) faces ≡ true
+  pub closed : (s : Simplex) → listed s l ≡ true → all_listed (owed_facets width s) faces ≡ true
   pub once : (s : Simplex) → copies s l ≤ 1
 
 -- the last of a list, or one before it
@@ -101,13 +101,13 @@ sound_empty width v faces =
       once = λ s. omega arith;
     }
 
-sound_more : (width v : ℕ) (faces l : List Simplex) (s : Simplex) → SoundList width v faces l → length s ≡ width → soundSimplex v s ≡ true → listed s l ≡ false → allListed (owedFacets width s) faces ≡ true → SoundList width v faces (l ++ (s ∷ []))
+sound_more : (width v : ℕ) (faces l : List Simplex) (s : Simplex) → SoundList width v faces l → length s ≡ width → sound_simplex v s ≡ true → listed s l ≡ false → all_listed (owed_facets width s) faces ≡ true → SoundList width v faces (l ++ (s ∷ []))
 unfolding copies
 sound_more width v faces l s before w o f c =
     record {
       wide = λ t e. each (λ x. length x ≡ width) before.wide w t (last-listed t s l e);
-      sound = λ t e. each (λ x. soundSimplex v x ≡ true) before.sound o t (last-listed t s l e);
-      closed = λ t e. each (λ x. allListed (owedFacets width x) faces ≡ true) before.closed c t (last-listed t s l e);
+      sound = λ t e. each (λ x. sound_simplex v x ≡ true) before.sound o t (last-listed t s l e);
+      closed = λ t e. each (λ x. all_listed (owed_facets width x) faces ≡ true) before.closed c t (last-listed t s l e);
       once = λ t. once t (same t s) refl;
     }
   where
@@ -126,27 +126,27 @@ sound_more width v faces l s before w o f c =
 
 -- ITEM BY ITEM. An item that was accepted passed rules 6, 7 and 8, and the rest was accepted behind it.
 pub record ItemPassed (width v : ℕ) (faces : List Simplex) (at : ℕ) (before : List Simplex) (s : Simplex) (rest l : List Simplex) : Type 0 where
-  pub sound : soundSimplex v s ≡ true
+  pub sound : sound_simplex v s ≡ true
   pub fresh : listed s before ≡ false
-  pub closed : allListed (owedFacets width s) faces ≡ true
-  pub later : readItems width v faces (at + width) (before ++ (s ∷ [])) rest ≡ accepted l
+  pub closed : all_listed (owed_facets width s) faces ≡ true
+  pub later : read_items width v faces (at + width) (before ++ (s ∷ [])) rest ≡ accepted l
 
-pub item-passed : (width v : ℕ) (faces : List Simplex) (at : ℕ) (before : List Simplex) (s : Simplex) (rest l : List Simplex) → readItems width v faces at before (s ∷ rest) ≡ accepted l → ItemPassed width v faces at before s rest l
-unfolding readItems
+pub item-passed : (width v : ℕ) (faces : List Simplex) (at : ℕ) (before : List Simplex) (s : Simplex) (rest l : List Simplex) → read_items width v faces at before (s ∷ rest) ≡ accepted l → ItemPassed width v faces at before s rest l
+unfolding read_items
 item-passed width v faces at before s rest l e =
-    let one = not-refused (not (soundSimplex v s)) vertex at _ l e in
+    let one = not-refused (not (sound_simplex v s)) vertex at _ l e in
     let two = not-refused (listed s before) twice at _ l one.1 in
-    let three = not-refused (not (allListed (owedFacets width s) faces)) face at _ l two.1 in
+    let three = not-refused (not (all_listed (owed_facets width s) faces)) face at _ l two.1 in
     record {
-      sound = not-false (soundSimplex v s) one.0;
+      sound = not-false (sound_simplex v s) one.0;
       fresh = two.0;
-      closed = not-false (allListed (owedFacets width s) faces) three.0;
+      closed = not-false (all_listed (owed_facets width s) faces) three.0;
       later = three.1;
     }
 
 -- What was read is a sound list.
-pub items-sound : (width v : ℕ) (faces : List Simplex) (at : ℕ) (before : List Simplex) (rest : List Simplex) (l : List Simplex) → ((s : Simplex) → listed s rest ≡ true → length s ≡ width) → SoundList width v faces before → readItems width v faces at before rest ≡ accepted l → SoundList width v faces l
-unfolding readItems listed
+pub items-sound : (width v : ℕ) (faces : List Simplex) (at : ℕ) (before : List Simplex) (rest : List Simplex) (l : List Simplex) → ((s : Simplex) → listed s rest ≡ true → length s ≡ width) → SoundList width v faces before → read_items width v faces at before rest ≡ accepted l → SoundList width v faces l
+unfolding read_items listed
 items-sound width v faces at before [] l wide sound e = subst (SoundList width v faces) (same-accepted before l e) sound
 items-sound width v faces at before (s ∷ rest) l wide sound e =
     let it = item-passed width v faces at before s rest l e in
@@ -163,48 +163,48 @@ sound-moved width v faces l i k sound =
       once = λ s. subst (λ n. n ≤ 1) (sym (copies-moved s i k l)) (sound.once s);
     }
 
-pub allListed-moved : (r l : List Simplex) (i k : ℕ) → allListed r (moved i k l) ≡ allListed r l
-unfolding allListed
-allListed-moved [] l i k = refl
-allListed-moved (s ∷ r) l i k = rw (listed-moved s i k l, allListed-moved r l i k)
+pub all_listed-moved : (r l : List Simplex) (i k : ℕ) → all_listed r (moved i k l) ≡ all_listed r l
+unfolding all_listed
+all_listed-moved [] l i k = refl
+all_listed-moved (s ∷ r) l i k = rw (listed-moved s i k l, all_listed-moved r l i k)
 
 pub sound-under-moved : (width v : ℕ) (faces l : List Simplex) (i k : ℕ) → SoundList width v faces l → SoundList width v (moved i k faces) l
 sound-under-moved width v faces l i k sound =
     record {
       wide = sound.wide;
       sound = sound.sound;
-      closed = λ s e. allListed-moved (owedFacets width s) faces i k ∙ sound.closed s e;
+      closed = λ s e. all_listed-moved (owed_facets width s) faces i k ∙ sound.closed s e;
       once = sound.once;
     }
 
 -- A JOB that was read, of which the next three records say what is known.
 pub record SoundComplex (L : Limits) (X : Complex) : Type 0 where
   pub vertices : X.v ≤ L.vertices
-  pub edges : SoundList edgesKind X.v [] X.edges
-  pub triangles : SoundList trianglesKind X.v X.edges X.triangles
-  pub tetrahedra : SoundList tetrahedraKind X.v X.triangles X.tetrahedra
-  pub few-edges : length X.edges ≤ L.simplices
-  pub few-triangles : length X.triangles ≤ L.simplices
-  pub few-tetrahedra : length X.tetrahedra ≤ L.simplices
+  pub edges : SoundList edges_kind X.v [] X.edges
+  pub triangles : SoundList triangles_kind X.v X.edges X.triangles
+  pub tetrahedra : SoundList tetrahedra_kind X.v X.triangles X.tetrahedra
+  pub few_edges : length X.edges ≤ L.simplices
+  pub few_triangles : length X.triangles ≤ L.simplices
+  pub few_tetrahedra : length X.tetrahedra ≤ L.simplices
 
 -- a set of listed simplices
 abbrev pub Within : SimplexSet → List Simplex → Type 0
 Within A l = (s : Simplex) → A s ≡ true → listed s l ≡ true
 
 pub record SoundJob (L : Limits) (j : Job) : Type 0 where
-  pub dimension : dimensionFits j.question j.d ≡ true
+  pub dimension : dimension_fits j.question j.d ≡ true
   pub complex : SoundComplex L j.complex
-  pub chain : Within j.chain (simplices j.complex (chainDimension j.question j.d))
+  pub chain : Within j.chain (simplices j.complex (chain_dimension j.question j.d))
 
 -- Limits that go together: whatever may be listed can be chosen, numbered in two bytes and named in one, and the longest
 -- lists and the longest chain make a job that is not too long.
 pub record Consistent (L : Limits) : Type 0 where
-  pub chosen-simplices : 2 * L.simplices ≤ L.chainBytes
-  pub chosen-vertices : 2 * L.vertices ≤ L.chainBytes
+  pub chosen_simplices : 2 * L.simplices ≤ L.chain_bytes
+  pub chosen_vertices : 2 * L.vertices ≤ L.chain_bytes
   pub bytes : L.vertices ≤ 256
   pub positions : L.simplices ≤ 65536
-  pub job : 34 + 9 * L.simplices + L.chainBytes ≤ L.jobBytes
+  pub job : 34 + 9 * L.simplices + L.chain_bytes ≤ L.job_bytes
 
 pub small-consistent : Consistent small
 small-consistent =
-    record { chosen-simplices = lit≤ tt; chosen-vertices = lit≤ tt; bytes = lit≤ tt; positions = lit≤ tt; job = lit≤ tt }
+    record { chosen_simplices = lit≤ tt; chosen_vertices = lit≤ tt; bytes = lit≤ tt; positions = lit≤ tt; job = lit≤ tt }

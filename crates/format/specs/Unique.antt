@@ -6,26 +6,26 @@ use Rattle.chains.specs.Chain.{Chain, empty, Fills, SmallestFilling, InClass}
 use Rattle.chains.specs.Smallest.{smallest-unique}
 use Rattle.format.specs.Numbers.{Limits}
 use Rattle.format.specs.Reading.{Job, Question, fill, class, Reading, accepted, refused, reading}
-use Rattle.format.specs.Answer.{matrix, rows, cols, askedChain, FillAnswer, open-rim, unfilled, patch, ClassAnswer, AnswerTo, Answered, chainRecord}
+use Rattle.format.specs.Answer.{matrix, rows, cols, asked_chain, FillAnswer, open_rim, unfilled, patch, ClassAnswer, AnswerTo, Answered, chain_record}
 use Rattle.format.specs.Promise.{AnswerPromise, no_room, answered, over, WrittenJob, too_short, written, Written, WritePromise}
 
 pub fill-unique : (j : Job) (a b : List ℕ) → FillAnswer j a → FillAnswer j b → a ≡ b
-fill-unique j a b (open-rim o e) (open-rim o' e') = e ∙ sym e'
-fill-unique j a b (open-rim o e) (unfilled c n e') = absurd (o c)
-fill-unique j a b (open-rim o e) (patch c s f e') = absurd (o c)
-fill-unique j a b (unfilled c n e) (open-rim o e') = absurd (o c)
+fill-unique j a b (open_rim o e) (open_rim o' e') = e ∙ sym e'
+fill-unique j a b (open_rim o e) (unfilled c n e') = absurd (o c)
+fill-unique j a b (open_rim o e) (patch c s f e') = absurd (o c)
+fill-unique j a b (unfilled c n e) (open_rim o e') = absurd (o c)
 fill-unique j a b (unfilled c n e) (unfilled c' n' e') = e ∙ sym e'
 fill-unique j a b (unfilled c n e) (patch c' s f e') = absurd (n s f.has)
-fill-unique j a b (patch c s f e) (open-rim o e') = absurd (o c)
+fill-unique j a b (patch c s f e) (open_rim o e') = absurd (o c)
 fill-unique j a b (patch c s f e) (unfilled c' n e') = absurd (n s f.has)
 fill-unique j a b (patch c s f e) (patch c' s' f' e') =
-    e ∙ ap (chainRecord j.d (cols j))
-    (smallest-unique (Fills (matrix j) (length (cols j)) (askedChain j)) s s' f f') ∙ sym e'
+    e ∙ ap (chain_record j.d (cols j))
+    (smallest-unique (Fills (matrix j) (length (cols j)) (asked_chain j)) s s' f f') ∙ sym e'
 
 pub class-unique : (j : Job) (a b : List ℕ) → ClassAnswer j a → ClassAnswer j b → a ≡ b
 class-unique j a b x y =
-    x.is ∙ ap (chainRecord j.d (rows j))
-    (smallest-unique (InClass (matrix j) (length (cols j)) (length (rows j)) (askedChain j)) x.chain y.chain
+    x.is ∙ ap (chain_record j.d (rows j))
+    (smallest-unique (InClass (matrix j) (length (cols j)) (length (rows j)) (asked_chain j)) x.chain y.chain
     x.smallest y.smallest) ∙ sym y.is
 
 -- a job has at most one answer record
@@ -44,7 +44,7 @@ pub record SameAnswer (k k₂ : ℕ) (o o₂ w w₂ : List ℕ) : Type 0 where
   pub out : o ≡ o₂
   pub work : w ≡ w₂
 
-short-of-room : (L : Limits) (out work : List ℕ) → (length out < L.outBytes) ⊎ (length work < L.workBytes) → L.outBytes ≤ length out → L.workBytes ≤ length work → ⊥
+short-of-room : (L : Limits) (out work : List ℕ) → (length out < L.out_bytes) ⊎ (length work < L.work_bytes) → L.out_bytes ≤ length out → L.work_bytes ≤ length work → ⊥
 short-of-room L out work (inl p) ro rw' = omega arith
 short-of-room L out work (inr p) ro rw' = omega arith
 

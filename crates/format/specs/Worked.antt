@@ -1,43 +1,43 @@
 -- Two worked jobs on which wrong readings of document 01 differ from the right one, computed from their bytes.
 use Rattle.std.specs.Prelude.{ℕ, ◌≡◌, refl, Bool, true, false, List, [], ◌∷◌, ◌++◌}
 use Rattle.format.specs.Numbers.{small, stale}
-use Rattle.format.specs.Simplex.{Simplex, same, soundSimplex, risingFrom, all_below, listed, allListed, facets, simplices, vertexList}
-use Rattle.format.specs.Reading.{Reading, accepted, refused, Job, reading, recordFrom, header_at, readHead, after_head, afterLists, readList, readItems, items, readChain, chosenBy, positionsOf, risingBelow, readEdits, edited, moved, with_list}
+use Rattle.format.specs.Simplex.{Simplex, same, sound_simplex, rising_from, all_below, listed, all_listed, facets, simplices, vertex_list}
+use Rattle.format.specs.Reading.{Reading, accepted, refused, Job, reading, record_from, header_at, read_head, after_head, after_lists, read_list, read_items, items, read_chain, chosen_by, positions_of, rising_below, read_edits, edited, moved, with_list}
 
 -- The reading, open to computation: who unfolds this unfolds all that reading is made of.
-unfoldable pub readsTo : List ℕ → Reading Job
+unfoldable pub reads_to : List ℕ → Reading Job
 unfolding
     reading
-    recordFrom
+    record_from
     header_at
-    readHead
+    read_head
     after_head
-    afterLists
-    readList
-    readItems
+    after_lists
+    read_list
+    read_items
     items
-    readChain
-    chosenBy
-    positionsOf
-    risingBelow
-    readEdits
+    read_chain
+    chosen_by
+    positions_of
+    rising_below
+    read_edits
     edited
     moved
     with_list
-    soundSimplex
-    risingFrom
+    sound_simplex
+    rising_from
     all_below
     listed
-    allListed
+    all_listed
     same
     facets
     simplices
-    vertexList
-readsTo b = reading small b
+    vertex_list
+reads_to b = reading small b
 
 -- Shell, with P2's edit (triangle 012 from 0 to 3) given twice.
-abbrev pub sameEditTwice : List ℕ
-sameEditTwice =
+abbrev pub same_edit_twice : List ℕ
+same_edit_twice =
     (4 ∷ 0 ∷ 0 ∷ 0 ∷ 1 ∷ 0 ∷ 1 ∷ 2 ∷ 4 ∷ 0 ∷ []) ++
     (12 ∷ 0 ∷ 0 ∷ 0 ∷ 2 ∷ 0 ∷ 0 ∷ 1 ∷ 0 ∷ 2 ∷ 0 ∷ 3 ∷ 1 ∷ 2 ∷ 1 ∷ 3 ∷ 2 ∷ 3 ∷ []) ++
     (12 ∷ 0 ∷ 0 ∷ 0 ∷ 3 ∷ 0 ∷ 0 ∷ 1 ∷ 2 ∷ 0 ∷ 1 ∷ 3 ∷ 0 ∷ 2 ∷ 3 ∷ 1 ∷ 2 ∷ 3 ∷ []) ++
@@ -48,13 +48,13 @@ sameEditTwice =
 
 -- An edit is judged "at that moment, after all earlier edits": the second is stale, though in the file's order the simplex
 -- stands where it says.
-pub second-is-stale : readsTo sameEditTwice ≡ refused stale 79
-unfolding readsTo
+pub second-is-stale : reads_to same_edit_twice ≡ refused stale 79
+unfolding reads_to
 second-is-stale = refl
 
 -- Plate, class d 1, A is position 0, and an edit takes edge 01 from 0 to 2.
-abbrev pub chainThenEdit : List ℕ
-chainThenEdit =
+abbrev pub chain_then_edit : List ℕ
+chain_then_edit =
     (4 ∷ 0 ∷ 0 ∷ 0 ∷ 1 ∷ 0 ∷ 2 ∷ 1 ∷ 3 ∷ 0 ∷ []) ++
     (6 ∷ 0 ∷ 0 ∷ 0 ∷ 2 ∷ 0 ∷ 0 ∷ 1 ∷ 0 ∷ 2 ∷ 1 ∷ 2 ∷ []) ++
     (3 ∷ 0 ∷ 0 ∷ 0 ∷ 3 ∷ 0 ∷ 0 ∷ 1 ∷ 2 ∷ []) ++
@@ -68,6 +68,6 @@ chosen (accepted j) s = j.chain s
 chosen (refused number place) s = false
 
 -- "A's positions name simplices in the lists as written in the file": A is 01, not 02, which stands at 0 after the edit
-pub chain-of-file : (chosen (readsTo chainThenEdit) (0 ∷ 1 ∷ []) ≡ true) × (chosen (readsTo chainThenEdit) (0 ∷ 2 ∷ []) ≡ false)
-unfolding readsTo chosen
+pub chain-of-file : (chosen (reads_to chain_then_edit) (0 ∷ 1 ∷ []) ≡ true) × (chosen (reads_to chain_then_edit) (0 ∷ 2 ∷ []) ≡ false)
+unfolding reads_to chosen
 chain-of-file = (refl, refl)

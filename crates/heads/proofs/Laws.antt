@@ -10,12 +10,12 @@ use lib.ListN.{get_or}
 use borrow.Author.Tests.{eqb-true, eq-eqb, ne_eqb, le-leb, lt-leb}
 use Rattle.heads.specs.declared.Head.{Head}
 use Rattle.heads.specs.declared.HeadRead.TheVariants.{Sound, Bad}
-use Rattle.format.specs.Numbers.{small, badHead}
-use Rattle.format.specs.Reading.{Reading, accepted, refused, readHead, dimensionFits, questionOf, head_of, u16At}
+use Rattle.format.specs.Numbers.{small, bad_head}
+use Rattle.format.specs.Reading.{Reading, accepted, refused, read_head, dimension_fits, question_of, head_of, u16_at}
 
 -- the question is one of the two, and d is within its range
 abbrev pub asks : ℕ → ℕ → Bool
-asks q d = (eqb q 1 || eqb q 2) && dimensionFits (questionOf q) d
+asks q d = (eqb q 1 || eqb q 2) && dimension_fits (question_of q) d
 
 pub asks_nothing : (q d : ℕ) → q ≡ 1 → d ≡ 0 → false ≡ asks q d
 asks_nothing q d e z = rw (eq-eqb q 1 e, z)
@@ -30,26 +30,26 @@ pub asks-neither : (q d : ℕ) → (q ≡ 1 → ⊥) → (q ≡ 2 → ⊥) → f
 asks-neither q d n m = rw (ne_eqb q 1 n, ne_eqb q 2 m)
 
 module _ (p : List ℕ) where
-  pub head_read : asks (get_or p 0 0) (get_or p 1 0) ≡ true → u16At p 2 ≤ 256 → readHead small p ≡ accepted (head_of p)
-  unfolding readHead
-  head_read a h = rw (a, le-leb (u16At p 2) 256 h)
+  pub head_read : asks (get_or p 0 0) (get_or p 1 0) ≡ true → u16_at p 2 ≤ 256 → read_head small p ≡ accepted (head_of p)
+  unfolding read_head
+  head_read a h = rw (a, le-leb (u16_at p 2) 256 h)
 
-  pub head-unasked : asks (get_or p 0 0) (get_or p 1 0) ≡ false → readHead small p ≡ refused badHead 0
-  unfolding readHead
+  pub head-unasked : asks (get_or p 0 0) (get_or p 1 0) ≡ false → read_head small p ≡ refused bad_head 0
+  unfolding read_head
   head-unasked a = rw a
 
-  pub head-crowded : 256 < u16At p 2 → readHead small p ≡ refused badHead 0
-  unfolding readHead
-  head-crowded h = rw (lt-leb (u16At p 2) 256 h, and-false)
+  pub head-crowded : 256 < u16_at p 2 → read_head small p ≡ refused bad_head 0
+  unfolding read_head
+  head-crowded h = rw (lt-leb (u16_at p 2) 256 h, and-false)
 
-  pub same_head : (q d v : ℕ) → q ≡ get_or p 0 0 → d ≡ get_or p 1 0 → v ≡ u16At p 2 → accepted (record { question = questionOf q; d = d; v = v }) ≡ accepted (head_of p)
+  pub same_head : (q d v : ℕ) → q ≡ get_or p 0 0 → d ≡ get_or p 1 0 → v ≡ u16_at p 2 → accepted (record { question = question_of q; d = d; v = v }) ≡ accepted (head_of p)
   same_head q d v a b c = rw (a, b, c)
 
 -- a question that may be asked is one of the two
 pub asks-one : (q d : ℕ) → asks q d ≡ true → (q ≡ 1) ⊎ (q ≡ 2)
 asks-one q d e = go (eqb q 1) refl (eqb q 2) refl e
   where
-    go : (x : Bool) → eqb q 1 ≡ x → (y : Bool) → eqb q 2 ≡ y → (x || y) && dimensionFits (questionOf q) d ≡ true → (q ≡ 1) ⊎ (q ≡ 2)
+    go : (x : Bool) → eqb q 1 ≡ x → (y : Bool) → eqb q 2 ≡ y → (x || y) && dimension_fits (question_of q) d ≡ true → (q ≡ 1) ⊎ (q ≡ 2)
     go true p y r e = inl (eqb-true q 1 p)
     go false p true r e = inr (eqb-true q 2 r)
     go false p false r e = let z : ◌≡◌ {A = ℕ} 0 1 = cc in absurd (omega arith)

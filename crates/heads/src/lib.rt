@@ -1,6 +1,6 @@
 // The head of a job: the question, the answer's dimension and the number of vertices.
 ghost use Rattle.std.specs.Prelude.{◌≡◌, ◌&&◌, ◌||◌, eqb, leb, ◌<◌};
-ghost use Rattle.format.specs.Reading.{dimensionFits, questionOf};
+ghost use Rattle.format.specs.Reading.{dimension_fits, question_of};
 ghost use Rattle.heads.specs.Meaning.{HeadKnown};
 
 #[derive(Drop)]
@@ -40,7 +40,7 @@ impl Head {
 
 // Whether there is such a question, and it may be asked in dimension d.
 pub fn may_ask(question: usize, d: usize) -> bool
-    ensures { result ≡ ((eqb question 1 || eqb question 2) && dimensionFits (questionOf question) d) }
+    ensures { result ≡ ((eqb question 1 || eqb question 2) && dimension_fits (question_of question) d) }
 {
     if question == Head::FILL as usize {
         if d == 0 {

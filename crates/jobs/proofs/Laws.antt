@@ -8,10 +8,10 @@ use native.Mathlib.Omega.{arith}
 use lib.ListN.{length}
 use lib.Dec.{eqb}
 use borrow.Author.Tests.{le-ltb, eq-eqb, ne_eqb}
-use Rattle.format.specs.Numbers.{small, shape, badHead, headKind, edgesKind, trianglesKind, tetrahedraKind}
+use Rattle.format.specs.Numbers.{small, shape, bad_head, head_kind, edges_kind, triangles_kind, tetrahedra_kind}
 use Rattle.format.specs.Simplex.{Simplex, SimplexSet, listed, simplices}
 use Rattle.format.specs.Simplex as format
-use Rattle.format.specs.Reading.{Reading, ◌andThen◌, accepted, refused, Listing, Chosen, readList, readChain, readEdits, readHead, after_head, afterLists, reading, headFits, payloadAt, chainDimension, questionOf}
+use Rattle.format.specs.Reading.{Reading, ◌and_then◌, accepted, refused, Listing, Chosen, read_list, read_chain, read_edits, read_head, after_head, after_lists, reading, head_fits, payload_at, chain_dimension, question_of}
 use Rattle.format.specs.Reading as reader
 use Rattle.format.specs.Opened.{opened, record-opened, opened_inside, payload-long}
 use Rattle.format.specs.Sound.{SoundComplex}
@@ -24,23 +24,23 @@ use Rattle.lists.specs.declared.Verdict.TheVariants.{Fine, Refused}
 use Rattle.heads.specs.declared.Head.{Head}
 use Rattle.heads.specs.declared.HeadRead.{HeadRead}
 use Rattle.heads.specs.declared.HeadRead.TheVariants.{Sound}
-use Rattle.heads.specs.Meaning.{head_of, headReading, HeadKnown}
+use Rattle.heads.specs.Meaning.{head_of, head_reading, HeadKnown}
 use Rattle.lookup.specs.Indexed.{Keyed, Indexed}
 use Rattle.lookup.specs.IndexLaws.{sound-proper, proper-none}
-use Rattle.lookup.specs.Numbered.{simplicesIn}
+use Rattle.lookup.specs.Numbered.{simplices_in}
 use Rattle.lookup.specs.NumberedLaws.{none_in}
 use Rattle.reading_lists.specs.Items.{FacesIn}
-use Rattle.stages.specs.Meaning.{listRead, NothingRead}
+use Rattle.stages.specs.Meaning.{list_read, NothingRead}
 use Rattle.stages.specs.declared.ListRead.{ListRead}
-use Rattle.complexes.specs.Meaning.{job_of, complexOf, Marked}
+use Rattle.complexes.specs.Meaning.{job_of, complex_of, Marked}
 use Rattle.complexes.specs.declared.Complex.{Complex}
 use Rattle.complexes.specs.declared.Job.{Job}
-use Rattle.lent_lists.specs.Held.{complexIn, Held, EditsHeld}
+use Rattle.lent_lists.specs.Held.{complex_in, Held, EditsHeld}
 use Rattle.lent_lists.specs.declared.Counts.{Counts}
 use Rattle.lent_lists.specs.declared.Edited.{Edited}
 use Rattle.chain_stage.specs.Meaning.{ChainStageRead}
 use Rattle.chain_stage.specs.declared.ChainStage.{ChainStage}
-use Rattle.jobs.specs.Meaning.{Outcome, SoundHead, ListSound, ListHeld, Lists, readLists, ListsTold, jobIn, withEdits, Unedited, Told}
+use Rattle.jobs.specs.Meaning.{Outcome, SoundHead, ListSound, ListHeld, Lists, read_lists, ListsTold, job_in, with_edits, Unedited, Told}
 use Rattle.jobs.specs.declared.JobRead.{JobRead}
 use Rattle.jobs.specs.declared.NumbersRead.{NumbersRead}
 use Rattle.jobs.specs.declared.ListsRead.{ListsRead}
@@ -50,21 +50,21 @@ refused-fine : {A : Type 0} {verdict : Verdict} (n p : ℕ) → verdict ≡ Refu
 refused-fine n p e f = let z : ◌≡◌ {A = ℕ} 0 1 = cc in absurd (omega arith)
 
 -- A REFUSAL of a stage is the outcome.
-pub unedited-refused : (r : Reading reader.Job) {b eKeys tKeys sKeys tSides sSides : List ℕ} (j : NumbersRead) (n p : ℕ) → r ≡ refused n p
-    → j.verdict ≡ Refused n p → Unedited r b eKeys tKeys sKeys tSides sSides j
-unedited-refused r {b} {eKeys} {tKeys} {sKeys} j n p e v = record {
+pub unedited-refused : (r : Reading reader.Job) {b e_keys t_keys s_keys t_sides s_sides : List ℕ} (j : NumbersRead) (n p : ℕ) → r ≡ refused n p
+    → j.verdict ≡ Refused n p → Unedited r b e_keys t_keys s_keys t_sides s_sides j
+unedited-refused r {b} {e_keys} {t_keys} {s_keys} j n p e v = record {
   set = λ s. false;
-  is = e ∙ ap (λ (x : Verdict). reading_of x (jobIn j eKeys tKeys sKeys (λ s. false)) and_then withEdits b j.next) (sym v);
+  is = e ∙ ap (λ (x : Verdict). reading_of x (job_in j e_keys t_keys s_keys (λ s. false)) and_then with_edits b j.next) (sym v);
   held = refused-fine n p v;
   marks = refused-fine n p v;
   head = refused-fine n p v;
 }
 
 -- what is read as one thing is read as what that is
-pub unedited-same : {r s : Reading reader.Job} {b eKeys tKeys sKeys tSides sSides : List ℕ} (j : NumbersRead) → r ≡ s
-    → Unedited s b eKeys tKeys sKeys tSides sSides j → Unedited r b eKeys tKeys sKeys tSides sSides j
-unedited-same {b = b} {eKeys = eKeys} {tKeys = tKeys} {sKeys = sKeys} {tSides = tSides} {sSides = sSides} j e o =
-    subst (λ (x : Reading reader.Job). Unedited x b eKeys tKeys sKeys tSides sSides j) (sym e) o
+pub unedited-same : {r s : Reading reader.Job} {b e_keys t_keys s_keys t_sides s_sides : List ℕ} (j : NumbersRead) → r ≡ s
+    → Unedited s b e_keys t_keys s_keys t_sides s_sides j → Unedited r b e_keys t_keys s_keys t_sides s_sides j
+unedited-same {b = b} {e_keys = e_keys} {t_keys = t_keys} {s_keys = s_keys} {t_sides = t_sides} {s_sides = s_sides} j e o =
+    subst (λ (x : Reading reader.Job). Unedited x b e_keys t_keys s_keys t_sides s_sides j) (sym e) o
 
 -- THE JOB BY VALUE, from what was read into arrays.
 pub outcome-refused : {r : Reading reader.Job} (j : JobRead) (n p : ℕ) → r ≡ refused n p → j.verdict ≡ Refused n p → Outcome r j
@@ -76,13 +76,13 @@ outcome-refused {r} j n p e v = record {
   v = refused-fine n p v;
 }
 
-pub outcome-fine : {r : Reading reader.Job} {eKeys tKeys sKeys tSides sSides : List ℕ} {read : NumbersRead}
-    → Told r eKeys tKeys sKeys tSides sSides read → (X : Complex) → read.verdict ≡ Fine
-    → complexOf X ≡ complexIn read.head.v read.counts eKeys tKeys sKeys
+pub outcome-fine : {r : Reading reader.Job} {e_keys t_keys s_keys t_sides s_sides : List ℕ} {read : NumbersRead}
+    → Told r e_keys t_keys s_keys t_sides s_sides read → (X : Complex) → read.verdict ≡ Fine
+    → complex_of X ≡ complex_in read.head.v read.counts e_keys t_keys s_keys
     → Outcome r (record { verdict = Fine; job = record { head = read.head; complex = X; marks = read.marks } })
-outcome-fine {r} {eKeys} {tKeys = tKeys} {sKeys = sKeys} {read = read} told X fine made = record {
+outcome-fine {r} {e_keys} {t_keys = t_keys} {s_keys = s_keys} {read = read} told X fine made = record {
   set = told.set;
-  is = told.is ∙ ap (λ x. reading_of x (jobIn read eKeys tKeys sKeys told.set)) fine
+  is = told.is ∙ ap (λ x. reading_of x (job_in read e_keys t_keys s_keys told.set)) fine
       ∙ ap (λ (Y : format.Complex). accepted (asking Y)) (sym made);
   marks = λ f. subst (λ (Y : format.Complex). Marked read.marks.on (rows (asking Y)) told.set) (sym made) (told.marks fine);
   head = λ f. told.head fine;
@@ -90,18 +90,18 @@ outcome-fine {r} {eKeys} {tKeys = tKeys} {sKeys = sKeys} {read = read} told X fi
 }
   where
     asking : format.Complex → reader.Job
-    asking Y = record { question = questionOf read.head.question; d = read.head.d; complex = Y; chain = told.set }
+    asking Y = record { question = question_of read.head.question; d = read.head.d; complex = Y; chain = told.set }
 
 -- A LIST that was read, by its verdict.
-pub list-refused : (b : List ℕ) (at kind v : ℕ) (faces : List Simplex) (keys : List ℕ) (r : ListRead) (n p : ℕ) → listRead kind keys r ≡ readList small b at kind v faces → r.verdict ≡ Refused n p → readList small b at kind v faces ≡ refused n p
+pub list-refused : (b : List ℕ) (at kind v : ℕ) (faces : List Simplex) (keys : List ℕ) (r : ListRead) (n p : ℕ) → list_read kind keys r ≡ read_list small b at kind v faces → r.verdict ≡ Refused n p → read_list small b at kind v faces ≡ refused n p
 list-refused b at kind v faces keys r n p e f =
-    sym e ∙ ap (λ x. reading_of x (record { list = simplicesIn kind keys r.count; next = r.next })) f
+    sym e ∙ ap (λ x. reading_of x (record { list = simplices_in kind keys r.count; next = r.next })) f
 
-pub list-fine : (b : List ℕ) (at kind v : ℕ) (faces : List Simplex) (keys : List ℕ) (r : ListRead) → listRead kind keys r ≡ readList small b at kind v faces → r.verdict ≡ Fine → readList small b at kind v faces ≡ accepted (record { list = simplicesIn kind keys r.count; next = r.next })
+pub list-fine : (b : List ℕ) (at kind v : ℕ) (faces : List Simplex) (keys : List ℕ) (r : ListRead) → list_read kind keys r ≡ read_list small b at kind v faces → r.verdict ≡ Fine → read_list small b at kind v faces ≡ accepted (record { list = simplices_in kind keys r.count; next = r.next })
 list-fine b at kind v faces keys r e f =
-    sym e ∙ ap (λ x. reading_of x (record { list = simplicesIn kind keys r.count; next = r.next })) f
+    sym e ∙ ap (λ x. reading_of x (record { list = simplices_in kind keys r.count; next = r.next })) f
 
-pub list-known : (b : List ℕ) (at kind v : ℕ) (faces : List Simplex) (l : Listing) → 0 < kind → readList small b at kind v faces ≡ accepted l → ListSound kind v faces l.list
+pub list-known : (b : List ℕ) (at kind v : ℕ) (faces : List Simplex) (l : Listing) → 0 < kind → read_list small b at kind v faces ≡ accepted l → ListSound kind v faces l.list
 list-known b at kind v faces l positive e =
     let known = list-sound small b at kind v faces l positive e in
     record { sound = known.0; few = known.1 }
@@ -121,7 +121,7 @@ pub nothing-held : {b : List ℕ} {at kind v : ℕ} {faces : List Simplex} {keys
     → ListHeld b at kind v faces keys sides r
 nothing-held {kind = kind} {v = v} {faces = faces} {keys = keys} read = record {
   reads = read.reads v faces keys;
-  keyed = subst (λ (n : ℕ). Keyed (simplicesIn kind keys n) keys n) (sym read.none)
+  keyed = subst (λ (n : ℕ). Keyed (simplices_in kind keys n) keys n) (sym read.none)
       (record { count = ap length (sym (none_in kind keys)); own = λ i lt. absurd (omega arith) });
   within = omega (arith, read.none);
   sided = λ fine. record { own = λ i lt. absurd (omega (arith, read.none)) };
@@ -129,22 +129,22 @@ nothing-held {kind = kind} {v = v} {faces = faces} {keys = keys} read = record {
 
 -- THE LISTS, one over the other, by what was read of each.
 module _ (b : List ℕ) (at v : ℕ) where
-  pub no_edges : (n p : ℕ) → readList small b at edgesKind v [] ≡ refused n p → readLists b at v ≡ refused n p
-  unfolding readLists
+  pub no_edges : (n p : ℕ) → read_list small b at edges_kind v [] ≡ refused n p → read_lists b at v ≡ refused n p
+  unfolding read_lists
   no_edges n p e = rw e
 
-  module _ (edges : Listing) (some : readList small b at edgesKind v [] ≡ accepted edges) where
-    pub no-triangles : (n p : ℕ) → readList small b edges.next trianglesKind v edges.list ≡ refused n p → readLists b at v ≡ refused n p
-    unfolding readLists
+  module _ (edges : Listing) (some : read_list small b at edges_kind v [] ≡ accepted edges) where
+    pub no-triangles : (n p : ℕ) → read_list small b edges.next triangles_kind v edges.list ≡ refused n p → read_lists b at v ≡ refused n p
+    unfolding read_lists
     no-triangles n p e = rw (some, e)
 
-    module _ (triangles : Listing) (more : readList small b edges.next trianglesKind v edges.list ≡ accepted triangles) where
-      pub all-lists : (verdict : Verdict) (l : Listing) → readList small b triangles.next tetrahedraKind v triangles.list ≡ reading_of verdict l
-          → readLists b at v ≡ reading_of verdict (record {
+    module _ (triangles : Listing) (more : read_list small b edges.next triangles_kind v edges.list ≡ accepted triangles) where
+      pub all-lists : (verdict : Verdict) (l : Listing) → read_list small b triangles.next tetrahedra_kind v triangles.list ≡ reading_of verdict l
+          → read_lists b at v ≡ reading_of verdict (record {
             complex = record { v = v; edges = edges.list; triangles = triangles.list; tetrahedra = l.list };
             next = l.next;
           })
-      unfolding readLists
+      unfolding read_lists
       all-lists verdict l e =
           rw (some, more, e)
           (reading-then verdict l (λ s. record { complex = record { v = v; edges = edges.list; triangles = triangles.list; tetrahedra = s.list }; next = s.next }))
@@ -156,65 +156,65 @@ then-assoc (refused n p) f g = refl
 -- THE STAGES of the definition, one behind the other.
 module _ (b : List ℕ) (at : ℕ) (h : reader.Head) where
   -- the lists are read first, and then the rest
-  pub lists-first : after_head small b at h ≡ (readLists b at h.v and_then λ l. afterLists small b h l.next l.complex)
-  unfolding after_head readLists
+  pub lists-first : after_head small b at h ≡ (read_lists b at h.v and_then λ l. after_lists small b h l.next l.complex)
+  unfolding after_head read_lists
   lists-first =
       sym
-      (then-assoc (readList small b at edgesKind h.v []) _ rest
-      ∙ ap (λ (f : Listing → Reading reader.Job). readList small b at edgesKind h.v [] and_then f)
-      (fun_ext λ e. then-assoc (readList small b e.next trianglesKind h.v e.list) _ rest
-      ∙ ap (λ (f : Listing → Reading reader.Job). readList small b e.next trianglesKind h.v e.list and_then f)
-      (fun_ext λ t. then-assoc (readList small b t.next tetrahedraKind h.v t.list) _ rest)))
+      (then-assoc (read_list small b at edges_kind h.v []) _ rest
+      ∙ ap (λ (f : Listing → Reading reader.Job). read_list small b at edges_kind h.v [] and_then f)
+      (fun_ext λ e. then-assoc (read_list small b e.next triangles_kind h.v e.list) _ rest
+      ∙ ap (λ (f : Listing → Reading reader.Job). read_list small b e.next triangles_kind h.v e.list and_then f)
+      (fun_ext λ t. then-assoc (read_list small b t.next tetrahedra_kind h.v t.list) _ rest)))
     where
       rest : Lists → Reading reader.Job
-      rest l = afterLists small b h l.next l.complex
+      rest l = after_lists small b h l.next l.complex
 
   -- so a refusal among them is the outcome, and otherwise the rest is
-  module _ {eKeys eFirst eNext tKeys sKeys tSides sSides : List ℕ} (r : ListsRead)
-      (told : ListsTold b at h.v eKeys eFirst eNext tKeys sKeys tSides sSides r) where
+  module _ {e_keys e_first e_next t_keys s_keys t_sides s_sides : List ℕ} (r : ListsRead)
+      (told : ListsTold b at h.v e_keys e_first e_next t_keys s_keys t_sides s_sides r) where
     pub lists-refused : (n p : ℕ) → r.verdict ≡ Refused n p → after_head small b at h ≡ refused n p
     lists-refused n p e =
         lists-first
-        ∙ ap (λ x. x and_then λ l. afterLists small b h l.next l.complex)
-        (told.reads ∙ ap (λ v. reading_of v (record { complex = complexIn h.v r.counts eKeys tKeys sKeys; next = r.next })) e)
+        ∙ ap (λ x. x and_then λ l. after_lists small b h l.next l.complex)
+        (told.reads ∙ ap (λ v. reading_of v (record { complex = complex_in h.v r.counts e_keys t_keys s_keys; next = r.next })) e)
 
-    pub lists-fine : r.verdict ≡ Fine → after_head small b at h ≡ afterLists small b h r.next (complexIn h.v r.counts eKeys tKeys sKeys)
+    pub lists-fine : r.verdict ≡ Fine → after_head small b at h ≡ after_lists small b h r.next (complex_in h.v r.counts e_keys t_keys s_keys)
     lists-fine e =
         lists-first
-        ∙ ap (λ x. x and_then λ l. afterLists small b h l.next l.complex)
-        (told.reads ∙ ap (λ v. reading_of v (record { complex = complexIn h.v r.counts eKeys tKeys sKeys; next = r.next })) e)
+        ∙ ap (λ x. x and_then λ l. after_lists small b h l.next l.complex)
+        (told.reads ∙ ap (λ v. reading_of v (record { complex = complex_in h.v r.counts e_keys t_keys s_keys; next = r.next })) e)
 
 -- THE HEAD'S RECORD.
 module _ (b : List ℕ) where
   module _ (fits : length b ≤ 6690) where
-    pub head-refused : (number : ℕ) → opened (eqb headKind) b 0 ≡ refused number 0 → reading small b ≡ refused number 0
+    pub head-refused : (number : ℕ) → opened (eqb head_kind) b 0 ≡ refused number 0 → reading small b ≡ refused number 0
     unfolding reading
-    head-refused number e = rw (le-ltb 6690 (length b) fits, record-opened headFits b 0 headKind, e)
+    head-refused number e = rw (le-ltb 6690 (length b) fits, record-opened head_fits b 0 head_kind, e)
 
-    module _ (size : ℕ) (whole : opened (eqb headKind) b 0 ≡ accepted size) where
-      long : length (payloadAt b 0 size) ≡ size
-      long = payload-long b 0 size (opened_inside (eqb headKind) b 0 size whole)
+    module _ (size : ℕ) (whole : opened (eqb head_kind) b 0 ≡ accepted size) where
+      long : length (payload_at b 0 size) ≡ size
+      long = payload-long b 0 size (opened_inside (eqb head_kind) b 0 size whole)
 
       pub head-misshapen : (size ≡ 4 → ⊥) → reading small b ≡ refused shape 0
       unfolding reading
-      head-misshapen n = rw (le-ltb 6690 (length b) fits, record-opened headFits b 0 headKind, whole, long, ne_eqb size 4 n)
+      head-misshapen n = rw (le-ltb 6690 (length b) fits, record-opened head_fits b 0 head_kind, whole, long, ne_eqb size 4 n)
 
-      pub head-bad : size ≡ 4 → readHead small (payloadAt b 0 size) ≡ refused badHead 0 → reading small b ≡ refused badHead 0
+      pub head-bad : size ≡ 4 → read_head small (payload_at b 0 size) ≡ refused bad_head 0 → reading small b ≡ refused bad_head 0
       unfolding reading
-      head-bad n e = rw (le-ltb 6690 (length b) fits, record-opened headFits b 0 headKind, whole, long, eq-eqb size 4 n, e)
+      head-bad n e = rw (le-ltb 6690 (length b) fits, record-opened head_fits b 0 head_kind, whole, long, eq-eqb size 4 n, e)
 
-      pub head-fine : size ≡ 4 → (h : reader.Head) → readHead small (payloadAt b 0 size) ≡ accepted h → reading small b ≡ after_head small b 10 h
+      pub head-fine : size ≡ 4 → (h : reader.Head) → read_head small (payload_at b 0 size) ≡ accepted h → reading small b ≡ after_head small b 10 h
       unfolding reading
-      head-fine n h e = rw (le-ltb 6690 (length b) fits, record-opened headFits b 0 headKind, whole, long, eq-eqb size 4 n, e, n)
+      head-fine n h e = rw (le-ltb 6690 (length b) fits, record-opened head_fits b 0 head_kind, whole, long, eq-eqb size 4 n, e, n)
 
 -- THE DIMENSION OF A.
-pub dimension-none : (q d : ℕ) → q ≡ 1 → d ≡ 0 → 0 ≡ chainDimension (questionOf q) d
+pub dimension-none : (q d : ℕ) → q ≡ 1 → d ≡ 0 → 0 ≡ chain_dimension (question_of q) d
 dimension-none q d e z = rw (eq-eqb q 1 e, z)
 
-pub dimension-filling : (q d : ℕ) → q ≡ 1 → d - 1 ≡ chainDimension (questionOf q) d
+pub dimension-filling : (q d : ℕ) → q ≡ 1 → d - 1 ≡ chain_dimension (question_of q) d
 dimension-filling q d e = rw (eq-eqb q 1 e) (sub-one d)
 
-pub dimension-class : (q d : ℕ) → (q ≡ 1 → ⊥) → d ≡ chainDimension (questionOf q) d
+pub dimension-class : (q d : ℕ) → (q ≡ 1 → ⊥) → d ≡ chain_dimension (question_of q) d
 dimension-class q d n = rw (ne_eqb q 1 n)
 
 -- what is read behind a verdict is read behind it alone
@@ -224,58 +224,58 @@ then_same Fine a b f g e = e
 then_same (Refused n p) a b f g e = refl
 
 -- WHAT IS ASKED ABOUT stands before the edits.
-pub chain-asked : (b : List ℕ) (at dim : ℕ) (head : Head) (counts : Counts) (r : ChainStage) {eKeys tKeys sKeys tSides sSides : List ℕ}
-    → dim ≡ chainDimension (questionOf head.question) head.d → SoundHead head → Held head.v counts eKeys tKeys sKeys tSides sSides
-    → ChainStageRead b at dim (complexIn head.v counts eKeys tKeys sKeys) r
-    → Unedited (afterLists small b (head_of head) at (complexIn head.v counts eKeys tKeys sKeys)) b eKeys tKeys sKeys tSides sSides
+pub chain-asked : (b : List ℕ) (at dim : ℕ) (head : Head) (counts : Counts) (r : ChainStage) {e_keys t_keys s_keys t_sides s_sides : List ℕ}
+    → dim ≡ chain_dimension (question_of head.question) head.d → SoundHead head → Held head.v counts e_keys t_keys s_keys t_sides s_sides
+    → ChainStageRead b at dim (complex_in head.v counts e_keys t_keys s_keys) r
+    → Unedited (after_lists small b (head_of head) at (complex_in head.v counts e_keys t_keys s_keys)) b e_keys t_keys s_keys t_sides s_sides
     (record { verdict = r.verdict; head = head; counts = counts; marks = r.marks; next = r.next })
-unfolding afterLists
-chain-asked b at dim head counts r {eKeys} {tKeys} {sKeys} e known held read = record {
+unfolding after_lists
+chain-asked b at dim head counts r {e_keys} {t_keys} {s_keys} e known held read = record {
   set = read.set;
   is =
-      ap (λ (x : Reading Chosen). x and_then rest) (ap (λ (k : ℕ). readChain small b at k X) (sym e) ∙ read.reading)
-      ∙ then_same r.verdict (record { chain = read.set; next = r.next }) (asking read.set) rest (withEdits b r.next) refl;
+      ap (λ (x : Reading Chosen). x and_then rest) (ap (λ (k : ℕ). read_chain small b at k X) (sym e) ∙ read.reading)
+      ∙ then_same r.verdict (record { chain = read.set; next = r.next }) (asking read.set) rest (with_edits b r.next) refl;
   held = λ f. held;
   marks = λ f. subst (λ (k : ℕ). Marked r.marks.on (simplices X k) read.set) e (read.marks f (simplices-once small X held.sound dim));
   head = λ f. known;
 }
   where
     X : format.Complex
-    X = complexIn head.v counts eKeys tKeys sKeys
+    X = complex_in head.v counts e_keys t_keys s_keys
 
     asking : SimplexSet → reader.Job
-    asking A = record { question = questionOf head.question; d = head.d; complex = X; chain = A }
+    asking A = record { question = question_of head.question; d = head.d; complex = X; chain = A }
 
     rest : Chosen → Reading reader.Job
     rest A =
-        readEdits 64 b A.next X and_then λ Y.
-        accepted (record { question = questionOf head.question; d = head.d; complex = Y; chain = A.chain })
+        read_edits 64 b A.next X and_then λ Y.
+        accepted (record { question = question_of head.question; d = head.d; complex = Y; chain = A.chain })
 
 -- THE EDITS, behind a job that was read up to them.
-pub edits-told : {r : Reading reader.Job} {b eKeys tKeys sKeys tSides sSides : List ℕ} {read : NumbersRead}
-    → Unedited r b eKeys tKeys sKeys tSides sSides read → read.verdict ≡ Fine
-    → (dim next : ℕ) → dim ≡ chainDimension (questionOf read.head.question) read.head.d
-    → (done : Edited) {eKeys' tKeys' sKeys' tSides' sSides' : List ℕ}
-    → EditsHeld b read.next dim read.head.v (complexIn read.head.v read.counts eKeys tKeys sKeys) read.marks eKeys' tKeys' sKeys' tSides' sSides' done
-    → Told r eKeys' tKeys' sKeys' tSides' sSides'
+pub edits-told : {r : Reading reader.Job} {b e_keys t_keys s_keys t_sides s_sides : List ℕ} {read : NumbersRead}
+    → Unedited r b e_keys t_keys s_keys t_sides s_sides read → read.verdict ≡ Fine
+    → (dim next : ℕ) → dim ≡ chain_dimension (question_of read.head.question) read.head.d
+    → (done : Edited) {e_keys' t_keys' s_keys' t_sides' s_sides' : List ℕ}
+    → EditsHeld b read.next dim read.head.v (complex_in read.head.v read.counts e_keys t_keys s_keys) read.marks e_keys' t_keys' s_keys' t_sides' s_sides' done
+    → Told r e_keys' t_keys' s_keys' t_sides' s_sides'
     (record { verdict = done.verdict; head = read.head; counts = done.counts; marks = done.marks; next = next })
-edits-told {r} {b} {eKeys} {tKeys} {sKeys} {read = read} u fine dim next e done {eKeys'} {tKeys'} {sKeys'} taken = record {
+edits-told {r} {b} {e_keys} {t_keys} {s_keys} {read = read} u fine dim next e done {e_keys'} {t_keys'} {s_keys'} taken = record {
   set = u.set;
   is =
       u.is
-      ∙ ap (λ (x : Verdict). reading_of x (jobIn read eKeys tKeys sKeys u.set) and_then withEdits b read.next) fine
+      ∙ ap (λ (x : Verdict). reading_of x (job_in read e_keys t_keys s_keys u.set) and_then with_edits b read.next) fine
       ∙ ap (λ (x : Reading format.Complex). x and_then λ Y. accepted (asking Y)) taken.reading
-      ∙ reading-then done.verdict (complexIn read.head.v done.counts eKeys' tKeys' sKeys') asking;
+      ∙ reading-then done.verdict (complex_in read.head.v done.counts e_keys' t_keys' s_keys') asking;
   held = taken.held;
   marks = λ f.
-      subst (λ (k : ℕ). Marked done.marks.on (simplices (complexIn read.head.v done.counts eKeys' tKeys' sKeys') k) u.set) e
+      subst (λ (k : ℕ). Marked done.marks.on (simplices (complex_in read.head.v done.counts e_keys' t_keys' s_keys') k) u.set) e
       (taken.stay f u.set
-      (subst (λ (k : ℕ). Marked read.marks.on (simplices (complexIn read.head.v read.counts eKeys tKeys sKeys) k) u.set) (sym e) (u.marks fine)));
+      (subst (λ (k : ℕ). Marked read.marks.on (simplices (complex_in read.head.v read.counts e_keys t_keys s_keys) k) u.set) (sym e) (u.marks fine)));
   head = λ f. u.head fine;
 }
   where
     asking : format.Complex → reader.Job
-    asking Y = record { question = questionOf read.head.question; d = read.head.d; complex = Y; chain = u.set }
+    asking Y = record { question = question_of read.head.question; d = read.head.d; complex = Y; chain = u.set }
 
 -- three sound lists make a sound complex
 pub complex-sound : (v : ℕ) (edges triangles tetrahedra : List Simplex) → v ≤ 256 → ListSound 2 v [] edges → ListSound 3 v edges triangles → ListSound 4 v triangles tetrahedra → SoundComplex small (record { v = v; edges = edges; triangles = triangles; tetrahedra = tetrahedra })
@@ -285,22 +285,22 @@ complex-sound v edges triangles tetrahedra few e t s =
       edges = e.sound;
       triangles = t.sound;
       tetrahedra = s.sound;
-      few-edges = e.few;
-      few-triangles = t.few;
-      few-tetrahedra = s.few;
+      few_edges = e.few;
+      few_triangles = t.few;
+      few_tetrahedra = s.few;
     }
 
 -- a head that was read is sound
 pub head-known : (p : List ℕ) (r : HeadRead) (h : Head) → HeadKnown p r → r ≡ Sound h → SoundHead h
 head-known p r h known e =
-    let read = head-sound small p (head_of h) (told headReading r (Sound h) _ known.reading e) in
+    let read = head-sound small p (head_of h) (told head_reading r (Sound h) _ known.reading e) in
     record { asks = known.asks h e; dimension = read.0; vertices = read.1 }
 
 -- lists of which one was refused
-pub lists-told-refused : {b : List ℕ} {at v : ℕ} {eKeys eFirst eNext tKeys sKeys tSides sSides : List ℕ} {n p : ℕ} (r : ListsRead) → r.verdict ≡ Refused n p
-    → readLists b at v ≡ refused n p → ListsTold b at v eKeys eFirst eNext tKeys sKeys tSides sSides r
-lists-told-refused {v = v} {eKeys = eKeys} {tKeys = tKeys} {sKeys = sKeys} {n = n} {p = p} r e out = record {
-  reads = out ∙ ap (λ x. reading_of x (record { complex = complexIn v r.counts eKeys tKeys sKeys; next = r.next })) (sym e);
+pub lists-told-refused : {b : List ℕ} {at v : ℕ} {e_keys e_first e_next t_keys s_keys t_sides s_sides : List ℕ} {n p : ℕ} (r : ListsRead) → r.verdict ≡ Refused n p
+    → read_lists b at v ≡ refused n p → ListsTold b at v e_keys e_first e_next t_keys s_keys t_sides s_sides r
+lists-told-refused {v = v} {e_keys = e_keys} {t_keys = t_keys} {s_keys = s_keys} {n = n} {p = p} r e out = record {
+  reads = out ∙ ap (λ x. reading_of x (record { complex = complex_in v r.counts e_keys t_keys s_keys; next = r.next })) (sym e);
   held = refused-fine n p e;
   linked = refused-fine n p e;
 }

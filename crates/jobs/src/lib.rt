@@ -5,14 +5,14 @@ ghost use Rattle.std.specs.Prelude.{◌≡◌, List, ◌≤◌, length};
 ghost use Rattle.format.specs.Numbers.{small};
 ghost use Rattle.format.specs.Simplex.{Simplex};
 ghost use Rattle.format.specs.Reading as format;
-ghost use Rattle.format.specs.Reading.{Reading, reading, after_head, afterLists, chainDimension, questionOf};
+ghost use Rattle.format.specs.Reading.{Reading, reading, after_head, after_lists, chain_dimension, question_of};
 ghost use Rattle.keys.specs.Chained.{Chained};
 ghost use Rattle.lookup.specs.Indexed.{Blank, Indexed};
-ghost use Rattle.lookup.specs.Numbered.{simplicesIn};
+ghost use Rattle.lookup.specs.Numbered.{simplices_in};
 ghost use Rattle.reading_lists.specs.Items.{FacesIn};
 ghost use Rattle.stages.specs.Meaning.{RoomAt};
 ghost use Rattle.heads.specs.Meaning.{head_of};
-ghost use Rattle.lent_lists.specs.Held.{complexIn, Held};
+ghost use Rattle.lent_lists.specs.Held.{complex_in, Held};
 ghost use Rattle.jobs.specs.Meaning.{Outcome, SoundHead, FileRoom, SizesTold, ListHeld, ListsTold, Unedited, Told};
 
 use complexes::{Complex, Job};
@@ -75,7 +75,7 @@ impl NumbersRead {
 
 // The dimension of A: one below the answer's for a filling, the answer's for a class.
 pub fn chain_dimension(head: Head) -> usize
-    ensures { result ≡ chainDimension (questionOf head.question) head.d }
+    ensures { result ≡ chain_dimension (question_of head.question) head.d }
 {
     let d = head.d as usize;
     if head.question == Head::FILL {
@@ -265,8 +265,8 @@ fn after_lists(
     requires job_len_bound { length job.now ≤ 6690 }
     requires sound_head { SoundHead head }
     requires held { Held head.v counts e_keys.now t_keys.now s_keys.now t_sides.now s_sides.now }
-    requires indexed { Indexed (simplicesIn 2 e_keys.now counts.edges) e_keys.now e_first.now e_next.now counts.edges }
-    ensures { Unedited (afterLists small job.now (head_of head) at (complexIn head.v counts e_keys.now t_keys.now s_keys.now)) job.now e_keys.now t_keys.now s_keys.now t_sides.now s_sides.now result }
+    requires indexed { Indexed (simplices_in 2 e_keys.now counts.edges) e_keys.now e_first.now e_next.now counts.edges }
+    ensures { Unedited (after_lists small job.now (head_of head) at (complex_in head.v counts e_keys.now t_keys.now s_keys.now)) job.now e_keys.now t_keys.now s_keys.now t_sides.now s_sides.now result }
 {
     let v = head.v;
     let dim = chain_dimension(head);

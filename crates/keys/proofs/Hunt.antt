@@ -8,29 +8,29 @@ use native.Mathlib.Numerals.{unary_clauses}
 use lib.Dec.{eqb}
 use lib.ListN.{length, get_or}
 use borrow.Author.Tests.{eq-eqb, ne_eqb, eqb-true, eqb-false}
-use Rattle.keys.specs.Chained.{Chained, lastBelow, inBucket, buckets, last-hit, last-miss, last_within, last-passes, last-through}
+use Rattle.keys.specs.Chained.{Chained, last_below, in_bucket, buckets, last-hit, last-miss, last_within, last-passes, last-through}
 
 pub record Hunt (keys first next : List ℕ) (n key i : ℕ) : Type 0 where
   pub chained : Chained keys first next n
   pub within : i ≤ n
   pub hit : (j : ℕ) → i ≡ suc j → get_or keys j 0 % buckets ≡ key % buckets
-  pub rest : lastBelow (eqb key) keys n ≡ lastBelow (eqb key) keys i
+  pub rest : last_below (eqb key) keys n ≡ last_below (eqb key) keys i
 
 -- a key of another bucket is another key
-narrow : (key k : ℕ) → inBucket (key % buckets) k ≡ false → eqb key k ≡ false
+narrow : (key k : ℕ) → in_bucket (key % buckets) k ≡ false → eqb key k ≡ false
 narrow key k e = ne_eqb key k (λ same. eqb-false (k % buckets) (key % buckets) e (ap (λ (x : ℕ). x % buckets) (sym same)))
 
 -- going to the last key of the bucket below m passes no key that is asked for
 module _ (keys first next : List ℕ) (n key m i : ℕ) (chained : Chained keys first next n) where
-  onward : m ≤ n → i ≡ lastBelow (inBucket (key % buckets)) keys m → lastBelow (eqb key) keys n ≡ lastBelow (eqb key) keys m
+  onward : m ≤ n → i ≡ last_below (in_bucket (key % buckets)) keys m → last_below (eqb key) keys n ≡ last_below (eqb key) keys m
       → Hunt keys first next n key i
   onward l at rest = record {
     chained = chained;
-    within = omega (arith, last_within (inBucket (key % buckets)) keys m);
-    hit = λ j e. eqb-true (get_or keys j 0 % buckets) (key % buckets) (last-passes (inBucket (key % buckets)) keys m j (sym at ∙ e));
+    within = omega (arith, last_within (in_bucket (key % buckets)) keys m);
+    hit = λ j e. eqb-true (get_or keys j 0 % buckets) (key % buckets) (last-passes (in_bucket (key % buckets)) keys m j (sym at ∙ e));
     rest = rest
-        ∙ sym (last-through (eqb key) (inBucket (key % buckets)) keys (narrow key) m)
-        ∙ ap (lastBelow (eqb key) keys) (sym at);
+        ∙ sym (last-through (eqb key) (in_bucket (key % buckets)) keys (narrow key) m)
+        ∙ ap (last_below (eqb key) keys) (sym at);
   }
 
 pub hunt-start : {keys first next : List ℕ} {n key i : ℕ} → Chained keys first next n → i ≡ get_or first (key % buckets) 0
@@ -39,7 +39,7 @@ hunt-start {keys} {first} {next} {n} {key} {i} c e =
     onward keys first next n key n i c (omega arith) (e ∙ c.begin (key % buckets) (omega arith)) refl
 
 pub hunt-found : {keys first next : List ℕ} {n key : ℕ} (i : ℕ) → Hunt keys first next n key i → 0 < i → get_or keys (i - 1) 0 ≡ key
-    → i ≡ lastBelow (eqb key) keys n
+    → i ≡ last_below (eqb key) keys n
 hunt-found {keys} {first} {next} {n} {key} zero h pos e = absurd (omega arith)
 hunt-found {keys} {first} {next} {n} {key} (suc j) h pos e =
     sym (h.rest ∙ last-hit (eqb key) keys j (eq-eqb key (get_or keys j 0) (sym (simp unary_clauses at e))))
@@ -49,18 +49,18 @@ pub hunt-on : {keys first next : List ℕ} {n key : ℕ} (i : ℕ) → Hunt keys
 hunt-on {keys} {first} {next} {n} {key} zero h pos e = absurd (omega arith)
 hunt-on {keys} {first} {next} {n} {key} (suc j) h pos e =
     simp unary_clauses (onward keys first next n key j _ h.chained (omega (arith, h.within))
-    (h.chained.before j (omega (arith, h.within)) ∙ ap (λ (b : ℕ). lastBelow (inBucket b) keys j) (h.hit j refl))
+    (h.chained.before j (omega (arith, h.within)) ∙ ap (λ (b : ℕ). last_below (in_bucket b) keys j) (h.hit j refl))
     (h.rest ∙ last-miss (eqb key) keys j (ne_eqb key (get_or keys j 0) (λ s. e (simp unary_clauses (sym s))))))
 
 -- the chain falls
 pub hunt-falls : {keys first next : List ℕ} {n key : ℕ} (i : ℕ) → Hunt keys first next n key i → 0 < i → get_or next (i - 1) 0 < i
 hunt-falls {keys} {first} {next} {n} {key} zero h pos = absurd (omega arith)
 hunt-falls {keys} {first} {next} {n} {key} (suc j) h pos =
-    let falls : get_or next j 0 < suc j = omega (arith, h.chained.before j (omega (arith, h.within)), last_within (inBucket (get_or keys j 0 % buckets)) keys j) in
+    let falls : get_or next j 0 < suc j = omega (arith, h.chained.before j (omega (arith, h.within)), last_within (in_bucket (get_or keys j 0 % buckets)) keys j) in
     simp unary_clauses falls
 
-pub hunt-end : {keys first next : List ℕ} {n key i : ℕ} → Hunt keys first next n key i → i ≤ 0 → 0 ≡ lastBelow (eqb key) keys n
-unfolding lastBelow
+pub hunt-end : {keys first next : List ℕ} {n key i : ℕ} → Hunt keys first next n key i → i ≤ 0 → 0 ≡ last_below (eqb key) keys n
+unfolding last_below
 hunt-end {keys} {first} {next} {n} {key} {i} h l =
     let none : i ≡ 0 = omega arith in
-    sym (h.rest ∙ ap (lastBelow (eqb key) keys) none)
+    sym (h.rest ∙ ap (last_below (eqb key) keys) none)

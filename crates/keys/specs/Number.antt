@@ -31,18 +31,18 @@ unfolding number
 number_more a l = refl
 
 -- the digits of a number, so many of them
-unfoldable pub digitsOf : (width number : ℕ) → List ℕ
-digitsOf zero k = []
-digitsOf (suc w) k = k % digit ∷ digitsOf w (k / digit)
+unfoldable pub digits_of : (width number : ℕ) → List ℕ
+digits_of zero k = []
+digits_of (suc w) k = k % digit ∷ digits_of w (k / digit)
 
 -- are the vertices that it was made of
-pub digits-own : (l : List ℕ) → Digits l → digitsOf (length l) (number l) ≡ l
-unfolding number digitsOf
+pub digits-own : (l : List ℕ) → Digits l → digits_of (length l) (number l) ≡ l
+unfolding number digits_of
 digits-own [] d = refl
 digits-own (a ∷ l) (more lt d) =
     let low : (a + digit * number l) % digit ≡ a = omega arith in
     let high : (a + digit * number l) / digit ≡ number l = omega arith in
-    ap₂ (λ (x : ℕ) (y : List ℕ). x ∷ y) low (ap (digitsOf (length l)) high ∙ digits-own l d)
+    ap₂ (λ (x : ℕ) (y : List ℕ). x ∷ y) low (ap (digits_of (length l)) high ∙ digits-own l d)
 
 -- at most four digits, written out
 pub number-four : (l : List ℕ) → length l ≤ 4

@@ -1,6 +1,6 @@
 // Keys in rank order, and the look-up of a key through the keys of its bucket.
 ghost use Rattle.std.specs.Prelude.{◌≡◌, ◌<◌, eqb, length};
-ghost use Rattle.keys.specs.Chained.{Chained, Linked, lastBelow};
+ghost use Rattle.keys.specs.Chained.{Chained, Linked, last_below};
 
 // How many buckets the keys are spread over: the largest prime below twice a list's limit. Which prime suits best depends on the
 // mesh; decision 15 has what was measured.
@@ -9,7 +9,7 @@ pub const BUCKETS: usize = 1021;
 // One more than the place of a key among the first n, 0 where it is not there.
 pub fn find(keys: &[u64], first: &[u16], next: &[u16], n: usize, key: u64) -> usize
     requires { Chained keys.now first.now next.now n }
-    ensures { result ≡ lastBelow (eqb key) keys.now n }
+    ensures { result ≡ last_below (eqb key) keys.now n }
 {
     let bucket = (key % BUCKETS as u64) as usize;
     let mut i = first[bucket] as usize;

@@ -4,8 +4,8 @@
 ghost use Rattle.std.specs.Prelude.{◌≡◌, length};
 ghost use Rattle.format.specs.Simplex.{simplices};
 ghost use Rattle.format.specs.Simplex as format;
-ghost use Rattle.complexes.specs.Meaning.{complexOf};
-ghost use Rattle.lent_lists.specs.Held.{complexIn, Counted, Roomy, Room, HoldsNow, Held, EditsHeld};
+ghost use Rattle.complexes.specs.Meaning.{complex_of};
+ghost use Rattle.lent_lists.specs.Held.{complex_in, Counted, Roomy, Room, HoldsNow, Held, EditsHeld};
 
 use complexes::Complex;
 use keys::BUCKETS;
@@ -58,7 +58,7 @@ pub fn complex_of(
     tetrahedra: &[u64],
 ) -> Complex
     requires { Roomy counts edges.now triangles.now tetrahedra.now }
-    ensures { complexOf result ≡ complexIn v counts edges.now triangles.now tetrahedra.now }
+    ensures { complex_of result ≡ complex_in v counts edges.now triangles.now tetrahedra.now }
 {
     let edges = lookup::list_of(edges, counts.edges, 2);
     let triangles = lookup::list_of(triangles, counts.triangles, 3);
@@ -81,8 +81,8 @@ fn hold(
     t_sides: &mut [u64],
     s_sides: &mut [u64],
 ) -> Counts
-    requires { Room (complexOf complex) e_keys.old t_keys.old s_keys.old t_sides.old s_sides.old }
-    ensures { HoldsNow (complexOf complex) result e_keys.new t_keys.new s_keys.new t_sides.new s_sides.new }
+    requires { Room (complex_of complex) e_keys.old t_keys.old s_keys.old t_sides.old s_sides.old }
+    ensures { HoldsNow (complex_of complex) result e_keys.new t_keys.new s_keys.new t_sides.new s_sides.new }
 {
     let mut e_first = [0u16; BUCKETS];
     let mut e_next = [0u16; SimplexList::LIMIT];
@@ -131,7 +131,7 @@ pub fn take_edits(
     s_sides: &mut [u64],
 ) -> Edited
     requires { Held v counts e_keys.old t_keys.old s_keys.old t_sides.old s_sides.old }
-    ensures { EditsHeld job.now at dim v (complexIn v counts e_keys.old t_keys.old s_keys.old) marks e_keys.new t_keys.new s_keys.new t_sides.new s_sides.new result }
+    ensures { EditsHeld job.now at dim v (complex_in v counts e_keys.old t_keys.old s_keys.old) marks e_keys.new t_keys.new s_keys.new t_sides.new s_sides.new result }
 {
     if job.len() <= at {
         return Edited {

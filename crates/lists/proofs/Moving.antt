@@ -9,7 +9,7 @@ use lib.ListN.{length, take, get_or, set, length-map, length-set}
 use lib.Seq.{length-take-le, set-get_or, set-set, get_or-set_same, get_or-set_other}
 use Rattle.format.specs.Reading.{moved}
 use Rattle.format.specs.Moves.{exchanged, moved-home, moved_up, moved_down, take-moved, moved_out, map-moved}
-use Rattle.lists.specs.Meaning.{verticesOf, simplicesOf}
+use Rattle.lists.specs.Meaning.{vertices_of, simplices_of}
 use Rattle.lists.specs.Moved.{Toward, MovedList, MovedMarks}
 use Rattle.lists.specs.declared.Simplex.{Simplex}
 use Rattle.lists.specs.declared.SimplexList.{SimplexList}
@@ -94,11 +94,11 @@ module _ {A : Type 0} (n seen new : ℕ) (before : List A) where
   moving-end a list i m e = m.so_far ∙ ap (λ (k : ℕ). moved seen k before) e
 
 -- The list of simplices with its items moved, or left as they are.
-module _ (l : SimplexList) (n seen new : ℕ) (size : n ≡ length (simplicesOf l)) where
+module _ (l : SimplexList) (n seen new : ℕ) (size : n ≡ length (simplices_of l)) where
   pub none-there : n ≤ seen → MovedList l l seen new
   none-there out =
       record {
-        simplices = λ h. sym (moved_out seen new (simplicesOf l) (omega arith));
+        simplices = λ h. sym (moved_out seen new (simplices_of l) (omega arith));
         otherwise = λ h. refl;
         count = refl;
       }
@@ -110,15 +110,15 @@ module _ (l : SimplexList) (n seen new : ℕ) (size : n ≡ length (simplicesOf 
   moved-simplices r items count from to =
       record {
         simplices = λ h.
-            ap₂ (λ (k : ℕ) (s : List Simplex). map verticesOf (take k s)) count items ∙
-            ap (map verticesOf) (take-moved l.count seen new l.items (within seen from) (within new to)) ∙
-            map-moved verticesOf seen new (take l.count l.items);
+            ap₂ (λ (k : ℕ) (s : List Simplex). map vertices_of (take k s)) count items ∙
+            ap (map vertices_of) (take-moved l.count seen new l.items (within seen from) (within new to)) ∙
+            map-moved vertices_of seen new (take l.count l.items);
         otherwise = λ h. absurd (omega arith);
         count = count;
       }
     where
       within : (i : ℕ) → i < n → i < length (take l.count l.items)
-      within i h = omega (arith, length-map (take l.count l.items) verticesOf)
+      within i h = omega (arith, length-map (take l.count l.items) vertices_of)
 
 -- The same of marks, of which there are as many as places.
 module _ (m : Marks) (seen new : ℕ) (full : length m.on ≡ 512) where

@@ -12,12 +12,12 @@ abbrev pub none : Simplex
 none = record { vertices = []; dim = 0 }
 
 -- "its dimension is one less than their count": the vertices that count, of the four places
-abbrev pub verticesOf : Simplex → format.Simplex
-verticesOf s = take (suc s.dim) s.vertices
+abbrev pub vertices_of : Simplex → format.Simplex
+vertices_of s = take (suc s.dim) s.vertices
 
 -- the simplices that count, in the order of their ranks
-abbrev pub simplicesOf : SimplexList → List format.Simplex
-simplicesOf l = map verticesOf (take l.count l.items)
+abbrev pub simplices_of : SimplexList → List format.Simplex
+simplices_of l = map vertices_of (take l.count l.items)
 
 -- the place where a look-up found the simplex is its rank
 abbrev pub rank_of : Found → Rank

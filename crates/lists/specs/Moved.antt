@@ -1,7 +1,7 @@
 -- What moving one item comes to.
 use Rattle.std.specs.Prelude.{ℕ, ◌+◌, ◌-◌, ◌≤◌, ◌<◌, max, ◌≡◌, length, take}
 use Rattle.format.specs.Reading.{moved}
-use Rattle.lists.specs.Meaning.{simplicesOf}
+use Rattle.lists.specs.Meaning.{simplices_of}
 use Rattle.lists.specs.declared.SimplexList.{SimplexList}
 use Rattle.lists.specs.declared.Marks.{Marks}
 
@@ -15,8 +15,8 @@ pub record Toward (i to next : ℕ) : Type 0 where
 -- "An edit takes the simplex from its seen position and puts it at the new one": `after` is that list, where there is
 -- such a new position, and else the list as it was
 pub record MovedList (before after : SimplexList) (seen new : ℕ) : Type 0 where
-  pub simplices : new < length (simplicesOf before) → simplicesOf after ≡ moved seen new (simplicesOf before)
-  pub otherwise : length (simplicesOf before) ≤ new → after ≡ before
+  pub simplices : new < length (simplices_of before) → simplices_of after ≡ moved seen new (simplices_of before)
+  pub otherwise : length (simplices_of before) ≤ new → after ≡ before
   pub count : after.count ≡ before.count
 
 -- The same of marks: a chain keeps its simplices when their ranks move. `front` says so of the ranks of a list.

@@ -1,7 +1,7 @@
 -- A verdict, with what was read, as the reading that crate `format` defines.
 use Rattle.std.specs.Prelude.{◌≡◌, refl}
 use Rattle.std.proofs.Common.{sym, ◌∙◌, ap}
-use Rattle.format.specs.Reading.{Reading, accepted, refused, ◌andThen◌}
+use Rattle.format.specs.Reading.{Reading, accepted, refused, ◌and_then◌}
 use Rattle.lists.specs.declared.Verdict.{Verdict}
 use Rattle.lists.specs.declared.Verdict.TheVariants.{Fine, Refused}
 

@@ -1,7 +1,7 @@
 // Simplices, the lists of a complex, chains as marks by rank, and the verdicts on a job.
 ghost use Rattle.std.specs.Prelude.{◌≡◌, ◌+◌, ◌≤◌, min, false, [], length, take, drop, get_or, replicate};
 ghost use Rattle.format.specs.Simplex as format;
-ghost use Rattle.lists.specs.Meaning.{verticesOf, simplicesOf};
+ghost use Rattle.lists.specs.Meaning.{vertices_of, simplices_of};
 ghost use Rattle.lists.specs.Moved.{MovedList, MovedMarks, Toward};
 
 // A simplex: its vertices stand first in the array, one more of them than the dimension.
@@ -85,7 +85,7 @@ impl Simplex {
 
     // The number of vertices.
     pub fn size(self) -> usize
-        ensures { (result ≡ length (verticesOf self)) × (result ≤ 4) }
+        ensures { (result ≡ length (vertices_of self)) × (result ≤ 4) }
     {
         if self.dim < 3 {
             self.dim as usize + 1
@@ -96,7 +96,7 @@ impl Simplex {
 
     // The vertex at a place, 0 past the last.
     pub fn vertex(self, place: usize) -> u16
-        ensures { result ≡ get_or (verticesOf self) place 0 }
+        ensures { result ≡ get_or (vertices_of self) place 0 }
     {
         if place < self.size() {
             self.vertices[place]
@@ -117,7 +117,7 @@ impl SimplexList {
     pub const LIMIT: usize = 512;
 
     pub fn empty() -> Self
-        ensures { (simplicesOf result ≡ []) × (result.count ≡ 0) }
+        ensures { (simplices_of result ≡ []) × (result.count ≡ 0) }
     {
         let items = [Simplex::none(); SimplexList::LIMIT];
         Self { items, count: 0 }
@@ -202,7 +202,7 @@ fn toward(i: usize, to: usize) -> usize
 
 // Whether two simplices have the same vertices.
 pub fn same(a: Simplex, b: Simplex) -> bool
-    ensures { result ≡ format.same (verticesOf a) (verticesOf b) }
+    ensures { result ≡ format.same (vertices_of a) (vertices_of b) }
 {
     if a.vertices[0] != b.vertices[0] {
         return false;
@@ -248,7 +248,7 @@ fn vertex_at(p: &[u8], at: usize, width: usize, place: usize) -> u16
 // The simplex that `width` bytes from `at` on spell.
 pub fn simplex_at(p: &[u8], at: usize, width: usize) -> Simplex
     requires { (1 ≤ width) × (width ≤ 4) × (at + width ≤ length p.now) }
-    ensures { verticesOf result ≡ take width (drop at p.now) }
+    ensures { vertices_of result ≡ take width (drop at p.now) }
 {
     Simplex {
         vertices: [

@@ -10,7 +10,7 @@ use Rattle.format.specs.Simplex.{Simplex, Rank, ranked, unlisted, rank, listed, 
 use Rattle.format.specs.Listed.{StandsAt, rank-stands, same-equal, true-not-false}
 use Rattle.format.specs.Lookup.{first-ranked, stands-listed}
 use Rattle.format.specs.Sound.{SoundList, copies, copies-append, unlisted-copies, one_place}
-use Rattle.keys.specs.Chained.{Chained, Linked, lastBelow, buckets, last_within, last-passes, last_none, chained-none}
+use Rattle.keys.specs.Chained.{Chained, Linked, last_below, buckets, last_within, last-passes, last_none, chained-none}
 use Rattle.keys.specs.Number.{digit, number, Digits, number_same, number-four, digits-four}
 use Rattle.lookup.specs.Indexed.{Proper, NumberOf, Keyed, Indexed, Blank, Entered}
 
@@ -37,7 +37,7 @@ module _ {s : Simplex} {l : List Simplex} {keys : List ℕ} {n k : ℕ} (proper 
             (sym there.is ∙ e ∙ number_of.is);
       }
 
-  pub number-found : (j : ℕ) → lastBelow (eqb k) keys n ≡ suc j → rank s l ≡ ranked j
+  pub number-found : (j : ℕ) → last_below (eqb k) keys n ≡ suc j → rank s l ≡ ranked j
   number-found j e =
       let hit : k ≡ get_or keys j 0 = eqb-true k (get_or keys j 0) (last-passes (eqb k) keys n j e) in
       let stands : StandsAt s l j = own-place j (omega (arith, last_within (eqb k) keys n)) (sym hit) in
@@ -46,7 +46,7 @@ module _ {s : Simplex} {l : List Simplex} {keys : List ℕ} {n k : ℕ} (proper 
       let twice : i ≡ j = one_place s l (proper.once s) i j inside stands.below here stands.here in
       omega arith)
 
-  pub number-missing : lastBelow (eqb k) keys n ≡ 0 → rank s l ≡ unlisted
+  pub number-missing : last_below (eqb k) keys n ≡ 0 → rank s l ≡ unlisted
   number-missing e = go (rank s l) refl
     where
       go : (r : Rank) → rank s l ≡ r → rank s l ≡ unlisted
@@ -145,14 +145,14 @@ indexed-more l s {keys} {first} {next} {keys'} {first'} {next'} {n} old room e =
 pub record Indexing (l : List Simplex) (size : ℕ) (keys₀ next₀ keys first next : List ℕ) (i : ℕ) : Type 0 where
   pub whole : size ≡ length l
   pub within : i ≤ size
-  pub keys-long : length keys ≡ length keys₀
-  pub next-long : length next ≡ length next₀
+  pub keys_long : length keys ≡ length keys₀
+  pub next_long : length next ≡ length next₀
   pub entered : Indexed (take i l) keys first next i
 
 pub indexing-start : (l : List Simplex) (size : ℕ) {keys first next : List ℕ} → size ≡ length l → first ≡ replicate buckets 0
     → Indexing l size keys next keys first next 0
 indexing-start l size e none =
-    record { whole = e; within = omega arith; keys-long = refl; next-long = refl; entered = indexed-none none }
+    record { whole = e; within = omega arith; keys_long = refl; next_long = refl; entered = indexed-none none }
 
 pub indexing-on : {l : List Simplex} {size : ℕ} {keys₀ next₀ keys first next keys' first' next' : List ℕ} {i : ℕ} (s : Simplex)
     → Indexing l size keys₀ next₀ keys first next i → i < size → i < length keys₀ → get_or l i [] ≡ s
@@ -163,12 +163,12 @@ indexing-on {l} {size} {keys₀} {next₀} {keys} {first} {next} {keys'} {first'
     (record {
       whole = a.whole;
       within = omega arith;
-      keys-long = long ∙ a.keys-long;
-      next-long = long' ∙ a.next-long;
+      keys_long = long ∙ a.keys_long;
+      next_long = long' ∙ a.next_long;
       entered =
           subst (λ (m : List Simplex). Indexed m keys' first' next' (suc i))
           (sym (take-suc l i [] (omega (arith, a.whole)) ∙ ap (λ (x : Simplex). take i l ++ (x ∷ [])) here))
-          (indexed-more (take i l) s a.entered (omega (arith, a.keys-long)) e);
+          (indexed-more (take i l) s a.entered (omega (arith, a.keys_long)) e);
     })
 
 pub indexing-end : {l : List Simplex} {size : ℕ} {keys₀ next₀ keys first next : List ℕ} {i : ℕ}

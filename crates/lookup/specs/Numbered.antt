@@ -2,8 +2,8 @@
 -- width say what the simplices are.
 use Rattle.std.specs.Prelude.{ℕ, List, map, take}
 use Rattle.format.specs.Simplex.{Simplex}
-use Rattle.keys.specs.Number.{digitsOf}
+use Rattle.keys.specs.Number.{digits_of}
 
 -- the simplices of the first n numbers, of so many vertices each
-unfoldable pub simplicesIn : (width : ℕ) → List ℕ → ℕ → List Simplex
-simplicesIn width keys n = map (digitsOf width) (take n keys)
+unfoldable pub simplices_in : (width : ℕ) → List ℕ → ℕ → List Simplex
+simplices_in width keys n = map (digits_of width) (take n keys)

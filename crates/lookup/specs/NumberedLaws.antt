@@ -7,22 +7,22 @@ use mathlib.Core.List.{List, [], ◌∷◌, ◌++◌, map, map-append}
 use Rattle.std.proofs.Math.ListN.{length-map, length-take}
 use Rattle.format.specs.Simplex.{Simplex}
 use Rattle.format.specs.Reading.{without}
-use Rattle.keys.specs.Number.{digit, number, number-none, number_more, Digits, none, more, digitsOf, digits-own}
-use Rattle.lists.specs.Meaning.{verticesOf, simplicesOf}
+use Rattle.keys.specs.Number.{digit, number, number-none, number_more, Digits, none, more, digits_of, digits-own}
+use Rattle.lists.specs.Meaning.{vertices_of, simplices_of}
 use Rattle.lists.specs.Items.{appended}
 use Rattle.lists.specs.declared.Simplex as code
 use Rattle.lists.specs.declared.SimplexList.{SimplexList}
 use Rattle.lookup.specs.Indexed.{Proper, NumberOf, Keyed, Entered}
-use Rattle.lookup.specs.Numbered.{simplicesIn}
+use Rattle.lookup.specs.Numbered.{simplices_in}
 
 -- a number's digits are the simplex that it is the number of
-pub vertices-own : {s : Simplex} {k width : ℕ} → NumberOf s k → length s ≡ width → digitsOf width k ≡ s
-vertices-own {s} {k} {width} own wide = ap₂ digitsOf (sym wide) own.is ∙ digits-own s own.digits
+pub vertices-own : {s : Simplex} {k width : ℕ} → NumberOf s k → length s ≡ width → digits_of width k ≡ s
+vertices-own {s} {k} {width} own wide = ap₂ digits_of (sym wide) own.is ∙ digits-own s own.digits
 
 -- at most four digits, written out, as a struct has them
 pub four-digits : (width k : ℕ) → 1 ≤ width → width ≤ 4
-    → take (suc (width - 1)) (k % digit ∷ k / digit % digit ∷ k / digit / digit % digit ∷ k / digit / digit / digit % digit ∷ []) ≡ digitsOf width k
-unfolding digitsOf
+    → take (suc (width - 1)) (k % digit ∷ k / digit % digit ∷ k / digit / digit % digit ∷ k / digit / digit / digit % digit ∷ []) ≡ digits_of width k
+unfolding digits_of
 four-digits zero k p q = absurd (omega arith)
 four-digits (suc zero) k p q = refl
 four-digits (suc (suc zero)) k p q = refl
@@ -112,71 +112,71 @@ map_at f (x ∷ l) zero lt = refl
 map_at f (x ∷ l) (suc i) lt = map_at f l i (omega arith)
 
 module _ (width : ℕ) (keys : List ℕ) where
-  pub none_in : simplicesIn width keys 0 ≡ []
-  unfolding simplicesIn
+  pub none_in : simplices_in width keys 0 ≡ []
+  unfolding simplices_in
   none_in = refl
 
   module _ (n : ℕ) (room : n ≤ length keys) where
-    pub length-in : length (simplicesIn width keys n) ≡ n
-    unfolding simplicesIn
-    length-in = length-map (take n keys) (digitsOf width) ∙ length-take n keys ∙ omega arith
+    pub length-in : length (simplices_in width keys n) ≡ n
+    unfolding simplices_in
+    length-in = length-map (take n keys) (digits_of width) ∙ length-take n keys ∙ omega arith
 
-    pub simplex-in : (i : ℕ) → i < n → get_or (simplicesIn width keys n) i [] ≡ digitsOf width (get_or keys i 0)
-    unfolding simplicesIn
+    pub simplex-in : (i : ℕ) → i < n → get_or (simplices_in width keys n) i [] ≡ digits_of width (get_or keys i 0)
+    unfolding simplices_in
     simplex-in i lt =
-        map_at (digitsOf width) (take n keys) i (omega (arith, length-take n keys))
-        ∙ ap (digitsOf width) (get_or-take n keys i 0 lt)
+        map_at (digits_of width) (take n keys) i (omega (arith, length-take n keys))
+        ∙ ap (digits_of width) (get_or-take n keys i 0 lt)
 
     -- the list whose numbers they are is the one that they stand for
-    pub keyed-in : {l : List Simplex} → Proper width l → Keyed l keys n → simplicesIn width keys n ≡ l
+    pub keyed-in : {l : List Simplex} → Proper width l → Keyed l keys n → simplices_in width keys n ≡ l
     keyed-in {l} proper keyed =
         ext_get_or [] _ l (length-in ∙ keyed.count) (λ i lt.
         let below : i < n = omega (arith, length-in) in
         simplex-in i below ∙ vertices-own (keyed.own i below) (proper.wide i (omega (arith, keyed.count))))
 
   -- the next number is the next simplex
-  next-in : (n : ℕ) → n < length keys → simplicesIn width keys (suc n) ≡ simplicesIn width keys n ++ (digitsOf width (get_or keys n 0) ∷ [])
-  unfolding simplicesIn
+  next-in : (n : ℕ) → n < length keys → simplices_in width keys (suc n) ≡ simplices_in width keys n ++ (digits_of width (get_or keys n 0) ∷ [])
+  unfolding simplices_in
   next-in n room =
-      ap (map (digitsOf width)) (take-suc keys n 0 room) ∙ map-append (digitsOf width) (take n keys) (get_or keys n 0 ∷ [])
+      ap (map (digits_of width)) (take-suc keys n 0 room) ∙ map-append (digits_of width) (take n keys) (get_or keys n 0 ∷ [])
 
   -- one more number behind the first n is one more simplex
   pub more-in : {s : Simplex} {keys' first' next' : List ℕ} {n : ℕ} → n < length keys → length s ≡ width
-      → Entered s keys keys' first' next' n → simplicesIn width keys' (suc n) ≡ simplicesIn width keys n ++ (s ∷ [])
-  unfolding simplicesIn
+      → Entered s keys keys' first' next' n → simplices_in width keys' (suc n) ≡ simplices_in width keys n ++ (s ∷ [])
+  unfolding simplices_in
   more-in {s} {keys'} {n = n} room wide e =
-      ap (λ (k : List ℕ). map (digitsOf width) (take (suc n) k)) e.put
-      ∙ ap (map (digitsOf width)) (take-suc-set keys n (number s) room)
-      ∙ map-append (digitsOf width) (take n keys) (number s ∷ [])
-      ∙ ap (λ (t : Simplex). map (digitsOf width) (take n keys) ++ (t ∷ []))
+      ap (λ (k : List ℕ). map (digits_of width) (take (suc n) k)) e.put
+      ∙ ap (map (digits_of width)) (take-suc-set keys n (number s) room)
+      ∙ map-append (digits_of width) (take n keys) (number s ∷ [])
+      ∙ ap (λ (t : Simplex). map (digits_of width) (take n keys) ++ (t ∷ []))
       (vertices-own {s = s} {k = number s} (record { is = refl; digits = e.digits }) wide)
 
 -- THE LOOP that lists the simplices of numbers: each turn appends the next.
 pub record Listing (width : ℕ) (keys : List ℕ) (n : ℕ) (l : SimplexList) : Type 0 where
-  pub listed : simplicesOf l ≡ simplicesIn width keys l.count
+  pub listed : simplices_of l ≡ simplices_in width keys l.count
   pub full : length l.items ≡ 512
   pub within : l.count ≤ n
 
 pub listing_start : (width : ℕ) (keys : List ℕ) (n : ℕ) (l : SimplexList) → length l.items ≡ 512
-    → (simplicesOf l ≡ []) × (l.count ≡ 0) → Listing width keys n l
+    → (simplices_of l ≡ []) × (l.count ≡ 0) → Listing width keys n l
 listing_start width keys n l full e = record {
-  listed = e.0 ∙ sym (none_in width keys) ∙ ap (simplicesIn width keys) (sym e.1);
+  listed = e.0 ∙ sym (none_in width keys) ∙ ap (simplices_in width keys) (sym e.1);
   full = full;
   within = omega (arith, e.1);
 }
 
 module _ {width : ℕ} {keys : List ℕ} {n : ℕ} {l : SimplexList} (a : Listing width keys n l) where
-  pub listing-on : (s : code.Simplex) → n ≤ 512 → n ≤ length keys → l.count < n → verticesOf s ≡ digitsOf width (get_or keys l.count 0)
+  pub listing-on : (s : code.Simplex) → n ≤ 512 → n ≤ length keys → l.count < n → vertices_of s ≡ digits_of width (get_or keys l.count 0)
       → Listing width keys n (record { items = set l.items l.count s; count = l.count + 1 })
   listing-on s few room lt here = record {
     listed =
         appended l s (omega (arith, a.full))
         ∙ ap₂ (λ (k : List Simplex) (t : Simplex). k ++ (t ∷ [])) a.listed here
         ∙ sym (next-in width keys l.count (omega arith))
-        ∙ ap (simplicesIn width keys) (sym (add-one l.count));
+        ∙ ap (simplices_in width keys) (sym (add-one l.count));
     full = length-set l.items l.count s ∙ a.full;
     within = omega arith;
   }
 
-  pub listing-end : n ≤ l.count → simplicesOf l ≡ simplicesIn width keys n
-  listing-end ge = let e : l.count ≡ n = omega (arith, a.within) in a.listed ∙ ap (simplicesIn width keys) e
+  pub listing-end : n ≤ l.count → simplices_of l ≡ simplices_in width keys n
+  listing-end ge = let e : l.count ≡ n = omega (arith, a.within) in a.listed ∙ ap (simplices_in width keys) e

@@ -2,13 +2,13 @@
 use Rattle.std.specs.Prelude.{ℕ, zero, suc, ◌+◌, ◌-◌, ◌*◌, ◌/◌, ◌%◌, ◌≤◌, ◌<◌, ◌≡◌, refl, true, false, List, [], length, get_or, set, eqb}
 use Rattle.std.proofs.Common.{arith, add-one, sym, ap, ◌∙◌, subst, length-set, get_or-set_same, get_or-set_other}
 use Rattle.std.proofs.Math.Decide.{ℕ_discrete}
-use Rattle.format.specs.Simplex.{Simplex, Rank, ranked, unlisted, rank, facets, allListed}
+use Rattle.format.specs.Simplex.{Simplex, Rank, ranked, unlisted, rank, facets, all_listed}
 use Rattle.format.specs.Listed.{true-not-false}
 use Rattle.format.specs.Reading.{without}
 use Rattle.format.specs.Moves.{length_without}
-use Rattle.format.specs.Facets.{facetsBelow, facets-below, facet-missing, facet-found, facets-none}
+use Rattle.format.specs.Facets.{facets_below, facets-below, facet-missing, facet-found, facets-none}
 use Rattle.format.specs.Matrix.{Closed}
-use Rattle.keys.specs.Chained.{lastBelow, last_within}
+use Rattle.keys.specs.Chained.{last_below, last_within}
 use Rattle.keys.specs.Number.{digit}
 use Rattle.lookup.specs.Indexed.{Proper, NumberOf, Keyed}
 use Rattle.lookup.specs.IndexLaws.{number-found, number-missing}
@@ -35,7 +35,7 @@ module _ {faces : List Simplex} {s : Simplex} where
 
 -- one facet that is not listed is enough
 lacking-one : (s : Simplex) (faces : List Simplex) (n j : ℕ) → j < n → rank (without j s) faces ≡ unlisted
-    → allListed (facetsBelow n s) faces ≡ false
+    → all_listed (facets_below n s) faces ≡ false
 lacking-one s faces zero j lt out = absurd (omega arith)
 lacking-one s faces (suc n) j lt out = go (rank (without n s) faces) refl (λ below. lacking-one s faces n j below out)
   where
@@ -45,14 +45,14 @@ lacking-one s faces (suc n) j lt out = go (rank (without n s) faces) refl (λ be
     here : {r : Rank} → rank (without n s) faces ≡ r → rank (without (suc n - 1) s) faces ≡ r
     here e = ap (λ (k : ℕ). rank (without k s) faces) (sym last) ∙ e
 
-    go : (r : Rank) → rank (without n s) faces ≡ r → (j < n → allListed (facetsBelow n s) faces ≡ false)
-        → allListed (facetsBelow (suc n) s) faces ≡ false
+    go : (r : Rank) → rank (without n s) faces ≡ r → (j < n → all_listed (facets_below n s) faces ≡ false)
+        → all_listed (facets_below (suc n) s) faces ≡ false
     go unlisted e below = facet-missing s faces (suc n) (omega arith) (here e)
     go (ranked i) e below = elim (ℕ_discrete j n) [
       | yes same ↦ facet-missing s faces (suc n) (omega arith) (here (ap (λ (k : ℕ). rank (without k s) faces) (sym same) ∙ out))
       | no other ↦
           facet-found s faces (suc n) i (omega arith) (here e)
-          ∙ ap (λ (k : ℕ). allListed (facetsBelow k s) faces) (sym last)
+          ∙ ap (λ (k : ℕ). all_listed (facets_below k s) faces) (sym last)
           ∙ below (omega arith)
     ]
 
@@ -60,19 +60,19 @@ lacking-one s faces (suc n) j lt out = go (rank (without n s) faces) refl (λ be
 pub record Siding (keys : List ℕ) (n number width skip k : ℕ) : Type 0 where
   pub within : skip ≤ width
   pub no_digit : skip ≤ 0 → k < 1
-  pub one-digit : skip ≤ 1 → k < 65536
+  pub one_digit : skip ≤ 1 → k < 65536
   pub two_digits : skip ≤ 2 → k < 4294967296
-  pub three-digits : skip ≤ 3 → k < 281474976710656
+  pub three_digits : skip ≤ 3 → k < 281474976710656
   pub found : (s : Simplex) → NumberOf s number → length s ≡ width → (faces : List Simplex) → Proper (width - 1) faces
-      → Keyed faces keys n → (allListed (facetsBelow skip s) faces ≡ true) × Sides faces s skip k
+      → Keyed faces keys n → (all_listed (facets_below skip s) faces ≡ true) × Sides faces s skip k
 
 pub siding-start : (keys : List ℕ) (n number width : ℕ) → Siding keys n number width 0 0
 siding-start keys n number width = record {
   within = omega arith;
   no_digit = λ _. omega arith;
-  one-digit = λ _. omega arith;
+  one_digit = λ _. omega arith;
   two_digits = λ _. omega arith;
-  three-digits = λ _. omega arith;
+  three_digits = λ _. omega arith;
   found = λ s own size faces proper keyed. (facets-none s faces 0 (omega arith), none);
 }
 
@@ -88,12 +88,12 @@ module _ {keys : List ℕ} {n number width skip k : ℕ} (a : Siding keys n numb
       }
     where
       told : {j : ℕ} {s : Simplex} {faces : List Simplex} → skip ≡ length s
-          → (allListed (facetsBelow skip s) faces ≡ true) × Sides faces s skip k → Ranked k ≡ Ranked j
-          → (allListed (facets s) faces ≡ true) × Sides faces s (length s) j
+          → (all_listed (facets_below skip s) faces ≡ true) × Sides faces s skip k → Ranked k ≡ Ranked j
+          → (all_listed (facets s) faces ≡ true) × Sides faces s (length s) j
       told {j} {s} {faces} all known e =
           let same : k ≡ j = cc in (
-            ap (λ (l : List Simplex). allListed l faces) (facets-below s)
-                ∙ ap (λ (m : ℕ). allListed (facetsBelow m s) faces) (sym all)
+            ap (λ (l : List Simplex). all_listed l faces) (facets-below s)
+                ∙ ap (λ (m : ℕ). all_listed (facets_below m s) faces) (sym all)
                 ∙ known.0,
             subst (Sides faces s (length s)) same (subst (λ (m : ℕ). Sides faces s m k) all known.1),
           )
@@ -101,7 +101,7 @@ module _ {keys : List ℕ} {n number width skip k : ℕ} (a : Siding keys n numb
   -- the facet that leaves out the next vertex was looked up by its number
   module _ (below : skip < width) (few : width ≤ 4) {facet place : ℕ}
       (facet-own : (s : Simplex) → NumberOf s number → length s ≤ 4 → skip < length s → NumberOf (without skip s) facet)
-      (looked : place ≡ lastBelow (eqb facet) keys n) where
+      (looked : place ≡ last_below (eqb facet) keys n) where
     module _ (s : Simplex) (own : NumberOf s number) (size : length s ≡ width) (faces : List Simplex)
         (proper : Proper (width - 1) faces) (keyed : Keyed faces keys n) where
       short : Proper (length (without skip s)) faces
@@ -113,7 +113,7 @@ module _ {keys : List ℕ} {n number width skip k : ℕ} (a : Siding keys n numb
       siding-lacks None-found = record {
         listed = λ e. let z : ◌≡◌ {A = ℕ} 0 1 = cc in absurd (omega arith);
         lacking = λ e.
-            ap (λ (l : List Simplex). allListed l faces) (facets-below s)
+            ap (λ (l : List Simplex). all_listed l faces) (facets-below s)
             ∙ lacking-one s faces (length s) skip (omega arith)
             (number-missing short keyed (facet-own s own (omega arith) (omega arith)) (sym looked ∙ None-found));
       }
@@ -131,16 +131,16 @@ module _ {keys : List ℕ} {n number width skip k : ℕ} (a : Siding keys n numb
         record {
           within = omega arith;
           no_digit = λ le. absurd (omega arith);
-          one-digit = λ le. omega (arith, a.no_digit (omega arith));
-          two_digits = λ le. omega (arith, a.one-digit (omega arith));
-          three-digits = λ le. omega (arith, a.two_digits (omega arith));
+          one_digit = λ le. omega (arith, a.no_digit (omega arith));
+          two_digits = λ le. omega (arith, a.one_digit (omega arith));
+          three_digits = λ le. omega (arith, a.two_digits (omega arith));
           found = λ s own size faces proper keyed.
               let known = a.found s own size faces proper keyed in
               let last : skip ≡ suc skip - 1 = omega arith in
               let next = facet-ranked s own size faces proper keyed some in
-              subst (λ (m : ℕ). (allListed (facetsBelow m s) faces ≡ true) × Sides faces s m (k * 65536 + (place - 1))) (sym (add-one skip)) (
+              subst (λ (m : ℕ). (all_listed (facets_below m s) faces ≡ true) × Sides faces s m (k * 65536 + (place - 1))) (sym (add-one skip)) (
                 facet-found s faces (suc skip) (place - 1) (omega arith) (ap (λ (m : ℕ). rank (without m s) faces) (sym last) ∙ next)
-                    ∙ ap (λ (m : ℕ). allListed (facetsBelow m s) faces) (sym last)
+                    ∙ ap (λ (m : ℕ). all_listed (facets_below m s) faces) (sym last)
                     ∙ known.0,
                 sides-more known.1 next low,
               );
@@ -164,39 +164,39 @@ sided-more {faces} {l} {sides} {n} {k} a room new = record { own = own }
     ]
 
 -- what is known of the first n simplices, and of the next
-listed_more : (faces l : List Simplex) {n : ℕ} → ((i : ℕ) → i < n → allListed (facets (get_or l i [])) faces ≡ true)
-    → allListed (facets (get_or l n [])) faces ≡ true → (i : ℕ) → i < suc n → allListed (facets (get_or l i [])) faces ≡ true
+listed_more : (faces l : List Simplex) {n : ℕ} → ((i : ℕ) → i < n → all_listed (facets (get_or l i [])) faces ≡ true)
+    → all_listed (facets (get_or l n [])) faces ≡ true → (i : ℕ) → i < suc n → all_listed (facets (get_or l i [])) faces ≡ true
 listed_more faces l {n} old new i lt = elim (ℕ_discrete i n) [
-  | yes same ↦ ap (λ (j : ℕ). allListed (facets (get_or l j [])) faces) same ∙ new
+  | yes same ↦ ap (λ (j : ℕ). all_listed (facets (get_or l j [])) faces) same ∙ new
   | no other ↦ old i (omega arith)
 ]
 
 -- THE LOOP over a list: the facets of its first i simplices are listed, and their sides found.
-pub record SidesFound (faceKeys : List ℕ) (m : ℕ) (keys : List ℕ) (n width : ℕ) (sides₀ sides : List ℕ) (i : ℕ) : Type 0 where
+pub record SidesFound (face_keys : List ℕ) (m : ℕ) (keys : List ℕ) (n width : ℕ) (sides₀ sides : List ℕ) (i : ℕ) : Type 0 where
   pub within : i ≤ n
   pub long : length sides ≡ length sides₀
-  pub found : (faces l : List Simplex) → Proper (width - 1) faces → Keyed faces faceKeys m → Proper width l → Keyed l keys n
-      → ((j : ℕ) → j < i → allListed (facets (get_or l j [])) faces ≡ true) × Sided faces l sides i
+  pub found : (faces l : List Simplex) → Proper (width - 1) faces → Keyed faces face_keys m → Proper width l → Keyed l keys n
+      → ((j : ℕ) → j < i → all_listed (facets (get_or l j [])) faces ≡ true) × Sided faces l sides i
 
-pub finding-start : (faceKeys : List ℕ) (m : ℕ) (keys : List ℕ) (n width : ℕ) (sides : List ℕ)
-    → SidesFound faceKeys m keys n width sides sides 0
-finding-start faceKeys m keys n width sides =
+pub finding-start : (face_keys : List ℕ) (m : ℕ) (keys : List ℕ) (n width : ℕ) (sides : List ℕ)
+    → SidesFound face_keys m keys n width sides sides 0
+finding-start face_keys m keys n width sides =
     record { within = omega arith; long = refl; found = λ faces l p k wide own. (λ j lt. absurd (omega arith), sided-none) }
 
-module _ {faceKeys : List ℕ} {m : ℕ} {keys : List ℕ} {n width : ℕ} {sides₀ sides : List ℕ} {i : ℕ}
-    (a : SidesFound faceKeys m keys n width sides₀ sides i) where
+module _ {face_keys : List ℕ} {m : ℕ} {keys : List ℕ} {n width : ℕ} {sides₀ sides : List ℕ} {i : ℕ}
+    (a : SidesFound face_keys m keys n width sides₀ sides i) where
   module _ (below : i < n) {r : Facets}
       (looked : (s : Simplex) → NumberOf s (get_or keys i 0) → length s ≡ width → (faces : List Simplex) → Proper (width - 1) faces
-      → Keyed faces faceKeys m → FacetsTold faces s r) where
+      → Keyed faces face_keys m → FacetsTold faces s r) where
     -- what the look-up of the next simplex says of it in a list
-    told : (faces l : List Simplex) → Proper (width - 1) faces → Keyed faces faceKeys m → Proper width l → Keyed l keys n
+    told : (faces l : List Simplex) → Proper (width - 1) faces → Keyed faces face_keys m → Proper width l → Keyed l keys n
         → FacetsTold faces (get_or l i []) r
     told faces l p k wide own =
         looked (get_or l i []) (own.own i below) (wide.wide i (omega (arith, own.count))) faces p k
 
-    pub finding-on : {k : ℕ} → r ≡ Ranked k → n ≤ length sides₀ → SidesFound faceKeys m keys n width sides₀ (set sides i k) (i + 1)
+    pub finding-on : {k : ℕ} → r ≡ Ranked k → n ≤ length sides₀ → SidesFound face_keys m keys n width sides₀ (set sides i k) (i + 1)
     finding-on {k} e room =
-        subst (SidesFound faceKeys m keys n width sides₀ (set sides i k)) (sym (add-one i)) (
+        subst (SidesFound face_keys m keys n width sides₀ (set sides i k)) (sym (add-one i)) (
         record {
           within = below;
           long = length-set sides i k ∙ a.long;
@@ -208,13 +208,13 @@ module _ {faceKeys : List ℕ} {m : ℕ} {keys : List ℕ} {n width : ℕ} {side
         )
 
     -- the next simplex lacks a facet
-    pub finding-lacks : r ≡ Lacking → (faces l : List Simplex) → Proper (width - 1) faces → Keyed faces faceKeys m → Proper width l
+    pub finding-lacks : r ≡ Lacking → (faces l : List Simplex) → Proper (width - 1) faces → Keyed faces face_keys m → Proper width l
         → Keyed l keys n → SidesTold faces l sides n i
     finding-lacks e faces l p k wide own =
         let known = a.found faces l p k wide own in
         record { within = a.within; listed = known.0; sided = known.1; lacking = λ lt. (told faces l p k wide own).lacking e }
 
-  pub finding-end : n ≤ i → (faces l : List Simplex) → Proper (width - 1) faces → Keyed faces faceKeys m → Proper width l
+  pub finding-end : n ≤ i → (faces l : List Simplex) → Proper (width - 1) faces → Keyed faces face_keys m → Proper width l
       → Keyed l keys n → SidesTold faces l sides n i
   finding-end end faces l p k wide own =
       let known = a.found faces l p k wide own in

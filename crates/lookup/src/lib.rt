@@ -3,12 +3,12 @@
 ghost use Rattle.std.specs.Prelude.{◌≡◌, List, ◌-◌, ◌≤◌, ◌<◌, length, get_or};
 ghost use Rattle.format.specs.Simplex.{rank};
 ghost use Rattle.format.specs.Simplex as format;
-ghost use Rattle.lists.specs.Meaning.{verticesOf, simplicesOf, rank_of};
+ghost use Rattle.lists.specs.Meaning.{vertices_of, simplices_of, rank_of};
 ghost use Rattle.format.specs.Reading.{without};
 ghost use Rattle.keys.specs.Chained.{Chained};
-ghost use Rattle.keys.specs.Number.{digitsOf};
+ghost use Rattle.keys.specs.Number.{digits_of};
 ghost use Rattle.lookup.specs.Indexed.{NumberOf, Keyed, Proper, Blank, Entered, Indexed};
-ghost use Rattle.lookup.specs.Numbered.{simplicesIn};
+ghost use Rattle.lookup.specs.Numbered.{simplices_in};
 ghost use Rattle.lookup.specs.Sides.{FacetsTold, SidesTold};
 
 use lists::{Found, Simplex, SimplexList};
@@ -23,7 +23,7 @@ pub fn number(a: u64, b: u64, c: u64, d: u64) -> u64
 
 // A simplex's own number.
 pub fn number_of(s: Simplex) -> u64
-    ensures { NumberOf (verticesOf s) result }
+    ensures { NumberOf (vertices_of s) result }
 {
     let a = s.vertex(0) as u64;
     let b = s.vertex(1) as u64;
@@ -35,7 +35,7 @@ pub fn number_of(s: Simplex) -> u64
 // The simplex of `width` vertices that has a number.
 pub fn simplex_of(number: u64, width: usize) -> Simplex
     requires { (1 ≤ width) × (width ≤ 4) }
-    ensures { verticesOf result ≡ digitsOf width number }
+    ensures { vertices_of result ≡ digits_of width number }
 {
     Simplex {
         vertices: [
@@ -86,7 +86,7 @@ pub fn rank_of(keys: &[u64], first: &[u16], next: &[u16], n: usize, number: u64)
 // The rank of a simplex in the list whose numbers the first n keys are.
 pub fn find(keys: &[u64], first: &[u16], next: &[u16], n: usize, s: Simplex) -> Found
     requires { Chained keys.now first.now next.now n }
-    ensures { (l : List format.Simplex) → Proper (length (verticesOf s)) l → Keyed l keys.now n → rank_of result ≡ rank (verticesOf s) l }
+    ensures { (l : List format.Simplex) → Proper (length (vertices_of s)) l → Keyed l keys.now n → rank_of result ≡ rank (vertices_of s) l }
 {
     rank_of(keys, first, next, n, number_of(s))
 }
@@ -95,7 +95,7 @@ pub fn find(keys: &[u64], first: &[u16], next: &[u16], n: usize, s: Simplex) -> 
 pub fn enter(keys: &mut [u64], first: &mut [u16], next: &mut [u16], n: usize, s: Simplex)
     requires chained { Chained keys.old first.old next.old n }
     requires n_in_bounds { (n < length keys.old) × (n < length next.old) × (n < 65535) }
-    ensures { Entered (verticesOf s) keys.old keys.new first.new next.new n }
+    ensures { Entered (vertices_of s) keys.old keys.new first.new next.new n }
 {
     keys::link(keys, first, next, n, number_of(s));
 }
@@ -103,8 +103,8 @@ pub fn enter(keys: &mut [u64], first: &mut [u16], next: &mut [u16], n: usize, s:
 // Enters a whole list, and says how many simplices it has.
 pub fn index(list: SimplexList, keys: &mut [u64], first: &mut [u16], next: &mut [u16]) -> usize
     requires blank { Blank first.old next.old }
-    requires list_in_bounds { length (simplicesOf list) ≤ length keys.old }
-    ensures { Indexed (simplicesOf list) keys.new first.new next.new result × (result ≤ 512) }
+    requires list_in_bounds { length (simplices_of list) ≤ length keys.old }
+    ensures { Indexed (simplices_of list) keys.new first.new next.new result × (result ≤ 512) }
 {
     let n = lists::least(list.count, SimplexList::LIMIT);
     let mut i = 0;
@@ -119,7 +119,7 @@ pub fn index(list: SimplexList, keys: &mut [u64], first: &mut [u16], next: &mut 
 pub fn list_of(keys: &[u64], n: usize, width: usize) -> SimplexList
     requires le_width { (1 ≤ width) × (width ≤ 4) }
     requires n_bound { (n ≤ 512) × (n ≤ length keys.now) }
-    ensures { simplicesOf result ≡ simplicesIn width keys.now n }
+    ensures { simplices_of result ≡ simplices_in width keys.now n }
 {
     let mut list = SimplexList::empty();
     while list.count < n {

@@ -40,8 +40,8 @@ module _ {b : List ℕ} {at : ℕ} {s : Sizes} (told : SizesTold b at s) (none :
     edges = λ fits. fits;
     triangles = λ fits. fits;
     tetrahedra = λ fits. omega (arith, told.tetrahedra);
-    triangle-sides = omega arith;
-    tetrahedron-sides = omega arith;
+    triangle_sides = omega arith;
+    tetrahedron_sides = omega arith;
   }
 
   pub few-room : s.edges ≤ 512 → s.triangles ≤ 384
@@ -50,6 +50,6 @@ module _ {b : List ℕ} {at : ℕ} {s : Sizes} (told : SizesTold b at s) (none :
     edges = λ fits. omega (arith, told.edges);
     triangles = λ fits. omega (arith, told.triangles);
     tetrahedra = λ fits. omega (arith, told.tetrahedra);
-    triangle-sides = omega arith;
-    tetrahedron-sides = omega arith;
+    triangle_sides = omega arith;
+    tetrahedron_sides = omega arith;
   }

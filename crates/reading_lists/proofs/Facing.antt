@@ -9,83 +9,83 @@ use mathlib.Core.List.{List, [], ◌∷◌, ◌++◌}
 use lib.ListN.{length, get_or}
 use lib.Dec.{leb}
 use borrow.Author.Tests.{le-leb, lt-leb, leb-false}
-use Rattle.format.specs.Simplex.{Simplex, soundSimplex, same, listed, allListed, facets}
+use Rattle.format.specs.Simplex.{Simplex, sound_simplex, same, listed, all_listed, facets}
 use Rattle.format.specs.Listed.{same-equal}
-use Rattle.format.specs.Reading.{Reading, refused, refuseIf, owedFacets}
+use Rattle.format.specs.Reading.{Reading, refused, refuse_if, owed_facets}
 use Rattle.format.specs.Sound.{AllSound}
-use Rattle.reading_lists.specs.Items.{lackOf, facesJudged}
+use Rattle.reading_lists.specs.Items.{lack_of, faces_judged}
 use Rattle.reading_lists.proofs.Faced.{faced-sound}
 
 -- what rule 8 asks of an edge is nothing, and of the others each facet
-pub edge-owes-none : (width : ℕ) (s : Simplex) (faces : List Simplex) → width ≤ 2 → allListed (owedFacets width s) faces ≡ true
-unfolding allListed
+pub edge-owes-none : (width : ℕ) (s : Simplex) (faces : List Simplex) → width ≤ 2 → all_listed (owed_facets width s) faces ≡ true
+unfolding all_listed
 edge-owes-none width s faces edge = rw (le-leb width 2 edge)
 
-pub others-owe : (width : ℕ) (s : Simplex) (faces : List Simplex) (b : Bool) → 2 < width → allListed (facets s) faces ≡ b
-    → allListed (owedFacets width s) faces ≡ b
+pub others-owe : (width : ℕ) (s : Simplex) (faces : List Simplex) (b : Bool) → 2 < width → all_listed (facets s) faces ≡ b
+    → all_listed (owed_facets width s) faces ≡ b
 others-owe width s faces b wide e = rw (lt-leb width 2 wide, e)
 
 module _ (width v : ℕ) (faces : List Simplex) where
   -- an item none of whose owed facets is missing
   abbrev pub Paid : Simplex → Type 0
-  Paid s = allListed (owedFacets width s) faces ≡ true
+  Paid s = all_listed (owed_facets width s) faces ≡ true
 
   -- rule 8 refuses none of the items, or the first that lacks a facet
   pub faces-listed : (at : ℕ) (l : List Simplex) (behind : Reading (List Simplex)) → ((i : ℕ) → i < length l → Paid (get_or l i []))
-      → facesJudged width v faces at l behind ≡ behind
-  unfolding facesJudged
+      → faces_judged width v faces at l behind ≡ behind
+  unfolding faces_judged
   faces-listed at [] behind paid = refl
   faces-listed at (s ∷ l) behind paid =
       let first : Paid s = paid 0 (omega arith) in
       rw first (faces-listed (at + width) l behind (λ i lt. paid (suc i) (omega arith)))
 
   pub first-lacks : (at : ℕ) (l : List Simplex) (behind : Reading (List Simplex)) (r : ℕ) → r < length l
-      → ((i : ℕ) → i < r → Paid (get_or l i [])) → allListed (owedFacets width (get_or l r [])) faces ≡ false
-      → facesJudged width v faces at l behind ≡ refused (lackOf v (get_or l r [])) (at + width * r)
-  unfolding facesJudged
+      → ((i : ℕ) → i < r → Paid (get_or l i [])) → all_listed (owed_facets width (get_or l r [])) faces ≡ false
+      → faces_judged width v faces at l behind ≡ refused (lack_of v (get_or l r [])) (at + width * r)
+  unfolding faces_judged
   first-lacks at [] behind r lt paid lacks = absurd (omega arith)
   first-lacks at (s ∷ l) behind zero lt paid lacks =
       let place : at ≡ at + width * 0 = omega (arith, mul-zero width) in
-      rw lacks (ap (refused (lackOf v s)) place)
+      rw lacks (ap (refused (lack_of v s)) place)
   first-lacks at (s ∷ l) behind (suc r) lt paid lacks =
       let first : Paid s = paid 0 (omega arith) in
       let place : at + width + width * r ≡ at + width * suc r = omega (arith, mul-suc width r) in
-      rw first (first-lacks (at + width) l behind r (omega arith) (λ i lt. paid (suc i) (omega arith)) lacks ∙ ap (refused (lackOf v (get_or l r []))) place)
+      rw first (first-lacks (at + width) l behind r (omega arith) (λ i lt. paid (suc i) (omega arith)) lacks ∙ ap (refused (lack_of v (get_or l r []))) place)
 
   -- an item more is judged behind the others, at its own place
   pub faces-more : (at : ℕ) (l : List Simplex) (s : Simplex) (behind : Reading (List Simplex))
-      → facesJudged width v faces at (l ++ (s ∷ [])) behind
-      ≡ facesJudged width v faces at l (refuseIf (not (allListed (owedFacets width s) faces)) (lackOf v s) (at + width * length l) behind)
-  unfolding facesJudged
+      → faces_judged width v faces at (l ++ (s ∷ [])) behind
+      ≡ faces_judged width v faces at l (refuse_if (not (all_listed (owed_facets width s) faces)) (lack_of v s) (at + width * length l) behind)
+  unfolding faces_judged
   faces-more at [] s behind =
       let place : at ≡ at + width * 0 = omega (arith, mul-zero width) in
-      ap (λ (a : ℕ). refuseIf (not (allListed (owedFacets width s) faces)) (lackOf v s) a behind) place
+      ap (λ (a : ℕ). refuse_if (not (all_listed (owed_facets width s) faces)) (lack_of v s) a behind) place
   faces-more at (t ∷ l) s behind =
       let place : at + width + width * length l ≡ at + width * suc (length l) = omega (arith, mul-suc width (length l)) in
-      ap (refuseIf (not (allListed (owedFacets width t) faces)) (lackOf v t) at)
+      ap (refuse_if (not (all_listed (owed_facets width t) faces)) (lack_of v t) at)
       (faces-more (at + width) l s behind
-      ∙ ap (λ (a : ℕ). facesJudged width v faces (at + width) l (refuseIf (not (allListed (owedFacets width s) faces)) (lackOf v s) a behind)) place)
+      ∙ ap (λ (a : ℕ). faces_judged width v faces (at + width) l (refuse_if (not (all_listed (owed_facets width s) faces)) (lack_of v s) a behind)) place)
 
   -- what stands behind the items matters only where none of them lacks a facet
   pub faces-same : (at : ℕ) (l : List Simplex) (behind other : Reading (List Simplex))
-      → (((f : Simplex) → listed f l ≡ true → Paid f) → behind ≡ other) → facesJudged width v faces at l behind ≡ facesJudged width v faces at l other
-  unfolding facesJudged listed
+      → (((f : Simplex) → listed f l ≡ true → Paid f) → behind ≡ other) → faces_judged width v faces at l behind ≡ faces_judged width v faces at l other
+  unfolding faces_judged listed
   faces-same at [] behind other h = h (λ f e. absurd (false≢true e))
-  faces-same at (t ∷ l) behind other h = go (allListed (owedFacets width t) faces) refl (faces-same (at + width) l behind other)
+  faces-same at (t ∷ l) behind other h = go (all_listed (owed_facets width t) faces) refl (faces-same (at + width) l behind other)
     where
       among : Paid t → ((f : Simplex) → listed f l ≡ true → Paid f) → (f : Simplex) (x : Bool) → same f t ≡ x → x || listed f l ≡ true → Paid f
       among p rest f true q e = subst Paid (sym (same-equal f t q)) p
       among p rest f false q e = rest f e
 
-      go : (x : Bool) → allListed (owedFacets width t) faces ≡ x
+      go : (x : Bool) → all_listed (owed_facets width t) faces ≡ x
           → ((((f : Simplex) → listed f l ≡ true → Paid f) → behind ≡ other)
-          → facesJudged width v faces (at + width) l behind ≡ facesJudged width v faces (at + width) l other)
-          → facesJudged width v faces at (t ∷ l) behind ≡ facesJudged width v faces at (t ∷ l) other
+          → faces_judged width v faces (at + width) l behind ≡ faces_judged width v faces (at + width) l other)
+          → faces_judged width v faces at (t ∷ l) behind ≡ faces_judged width v faces at (t ∷ l) other
       go true p later = rw p (later (λ rest. h (λ f e. among p rest f (same f t) refl e)))
       go false p later = rw p
 
   -- an item like one of which no facet is missing is sound, where the faces are
-  pub paid-sound : AllSound v faces → (s : Simplex) → length s ≡ width → leb width 2 ≡ false → Paid s → soundSimplex v s ≡ true
+  pub paid-sound : AllSound v faces → (s : Simplex) → length s ≡ width → leb width 2 ≡ false → Paid s → sound_simplex v s ≡ true
   paid-sound sound s size wide p =
-      let listed-all : allListed (facets s) faces ≡ true = subst (λ (b : Bool). allListed (cond b [] (facets s)) faces ≡ true) wide p in
+      let listed-all : all_listed (facets s) faces ≡ true = subst (λ (b : Bool). all_listed (cond b [] (facets s)) faces ≡ true) wide p in
       faced-sound v faces sound s (omega (arith, size, leb-false width 2 wide)) listed-all

@@ -6,14 +6,14 @@ use mathlib.Core.List.{List}
 use lib.ListN.{length}
 use Rattle.format.specs.Numbers.{vertex, twice}
 use Rattle.format.specs.Simplex.{Simplex, Rank, rank, listed}
-use Rattle.format.specs.Listed.{isRanked, listed-ranked}
+use Rattle.format.specs.Listed.{is_ranked, listed-ranked}
 use Rattle.lookup.specs.Indexed.{Proper, Keyed, NumberOf}
-use Rattle.reading_lists.specs.Items.{unsoundEdge, refusalOf}
+use Rattle.reading_lists.specs.Items.{unsound_edge, refusal_of}
 
 -- a simplex that has a rank is listed
-pub entered-told : (s : Simplex) (l : List Simplex) {r : Rank} (x : Rank) → r ≡ rank s l → r ≡ x → isRanked x ≡ listed s l
-unfolding isRanked
-entered-told s l x e q = ap isRanked (sym q ∙ e) ∙ sym (listed-ranked 0 s l)
+pub entered-told : (s : Simplex) (l : List Simplex) {r : Rank} (x : Rank) → r ≡ rank s l → r ≡ x → is_ranked x ≡ listed s l
+unfolding is_ranked
+entered-told s l x e q = ap is_ranked (sym q ∙ e) ∙ sym (listed-ranked 0 s l)
 
 -- what the look-up of a number says of the simplex that has it
 among : {keys : List ℕ} {n : ℕ} {s : Simplex} {width number : ℕ} {repeated : Bool} → length s ≡ width → NumberOf s number
@@ -24,18 +24,18 @@ among {s = s} size own looked is before proper keyed =
 
 -- AN ITEM s: the first test that holds decides.
 module _ (width v : ℕ) (s : Simplex) where
-  pub judged-unsound : unsoundEdge width v s ≡ true → (before : List Simplex) → vertex ≡ refusalOf width v before s
-  unfolding refusalOf
+  pub judged-unsound : unsound_edge width v s ≡ true → (before : List Simplex) → vertex ≡ refusal_of width v before s
+  unfolding refusal_of
   judged-unsound unsound before = rw unsound
 
   -- it is no unsound edge, has a number, and was looked up among the items before
-  module _ {keys : List ℕ} {n number : ℕ} (size : length s ≡ width) (own : NumberOf s number) (sound : unsoundEdge width v s ≡ false) {repeated : Bool}
+  module _ {keys : List ℕ} {n number : ℕ} (size : length s ≡ width) (own : NumberOf s number) (sound : unsound_edge width v s ≡ false) {repeated : Bool}
       (looked : (s : Simplex) → NumberOf s number → (l : List Simplex) → Proper (length s) l → Keyed l keys n → repeated ≡ listed s l)
       (before : List Simplex) (proper : Proper width before) (keyed : Keyed before keys n) where
-    pub judged-twice : repeated ≡ true → twice ≡ refusalOf width v before s
-    unfolding refusalOf
+    pub judged-twice : repeated ≡ true → twice ≡ refusal_of width v before s
+    unfolding refusal_of
     judged-twice again = rw (sound, among size own looked again before proper keyed)
 
-    pub judged-new : repeated ≡ false → 0 ≡ refusalOf width v before s
-    unfolding refusalOf
+    pub judged-new : repeated ≡ false → 0 ≡ refusal_of width v before s
+    unfolding refusal_of
     judged-new fresh = rw (sound, among size own looked fresh before proper keyed)

@@ -13,25 +13,25 @@ use lib.ListN.{length, get_or, take, drop, length-drop, get_or-append}
 use lib.Seq.{drop-drop, get_or-append_seam}
 use lib.Dec.{leb}
 use Rattle.format.specs.Numbers.{vertex, twice, face}
-use Rattle.format.specs.Simplex.{soundSimplex, listed, allListed}
+use Rattle.format.specs.Simplex.{sound_simplex, listed, all_listed}
 use Rattle.format.specs.Simplex as format
-use Rattle.format.specs.Reading.{Reading, refused, refuseIf, owedFacets, items_of, readItems}
+use Rattle.format.specs.Reading.{Reading, refused, refuse_if, owed_facets, items_of, read_items}
 use Rattle.format.specs.Items.{items-next, items-none}
 use Rattle.format.specs.Sound.{AllSound}
 use Rattle.lists.proofs.Four.{length_part}
 use Rattle.lists.specs.declared.Verdict.TheVariants.{Fine, Refused}
 use Rattle.lookup.specs.Indexed.{Proper, Keyed, Indexed, Blank, Entered}
 use Rattle.lookup.specs.IndexLaws.{proper-none, proper-more, indexed-none, indexed-more}
-use Rattle.lookup.specs.Numbered.{simplicesIn}
+use Rattle.lookup.specs.Numbered.{simplices_in}
 use Rattle.lookup.specs.NumberedLaws.{none_in, more-in}
-use Rattle.reading_lists.specs.Items.{refusalOf, lackOf, facesJudged, ItemsTaken, Shaped}
+use Rattle.reading_lists.specs.Items.{refusal_of, lack_of, faces_judged, ItemsTaken, Shaped}
 use Rattle.reading_lists.proofs.Facing.{faces-more, faces-same, paid-sound}
 
 -- The definition's checks in a row, of an item that is sound or not, repeated or not, and has its facets or not. Of one that is no
 -- edge 6 is not asked, so it must be known that such an item is sound where it has its facets, or where it stands before.
 module _ {A : Type 0} (place : ℕ) (next : Reading A) where
   abbrev checked : (sound repeated paid : Bool) → Reading A
-  checked sound repeated paid = refuseIf (not sound) vertex place (refuseIf repeated twice place (refuseIf (not paid) face place next))
+  checked sound repeated paid = refuse_if (not sound) vertex place (refuse_if repeated twice place (refuse_if (not paid) face place next))
 
   abbrev first_of : (edge sound repeated : Bool) → ℕ
   first_of edge sound repeated = cond (edge && not sound) vertex (cond repeated twice 0)
@@ -47,7 +47,7 @@ module _ {A : Type 0} (place : ℕ) (next : Reading A) where
   checked_refused false false false paid h k = absurd (h refl)
 
   checked-passed : (edge sound repeated paid : Bool) → first_of edge sound repeated ≡ 0 → (edge ≡ false → paid ≡ true → sound ≡ true)
-      → (checked sound repeated paid ≡ refuseIf (not paid) (cond sound face vertex) place next) × (repeated ≡ false)
+      → (checked sound repeated paid ≡ refuse_if (not paid) (cond sound face vertex) place next) × (repeated ≡ false)
   checked-passed true false repeated paid h k = absurd (omega arith)
   checked-passed true true true paid h k = absurd (omega arith)
   checked-passed true true false paid h k = (refl, refl)
@@ -58,20 +58,20 @@ module _ {A : Type 0} (place : ℕ) (next : Reading A) where
   checked-passed false false false false h k = (refl, refl)
 
 module _ (width v : ℕ) (faces : List format.Simplex) (at : ℕ) (before : List format.Simplex) (s : format.Simplex) (rest : List format.Simplex) where
-  item_refused : (refusalOf width v before s ≡ 0 → ⊥) → (leb width 2 ≡ false → listed s before ≡ true → soundSimplex v s ≡ true)
-      → readItems width v faces at before (s ∷ rest) ≡ refused (refusalOf width v before s) at
-  unfolding readItems refusalOf
+  item_refused : (refusal_of width v before s ≡ 0 → ⊥) → (leb width 2 ≡ false → listed s before ≡ true → sound_simplex v s ≡ true)
+      → read_items width v faces at before (s ∷ rest) ≡ refused (refusal_of width v before s) at
+  unfolding read_items refusal_of
   item_refused h k =
-      checked_refused at _ (leb width 2) (soundSimplex v s) (listed s before) (allListed (owedFacets width s) faces) h k
+      checked_refused at _ (leb width 2) (sound_simplex v s) (listed s before) (all_listed (owed_facets width s) faces) h k
 
   -- what is taken is new, and left to rule 8
-  item-passed : refusalOf width v before s ≡ 0 → (leb width 2 ≡ false → allListed (owedFacets width s) faces ≡ true → soundSimplex v s ≡ true)
-      → (readItems width v faces at before (s ∷ rest)
-      ≡ refuseIf (not (allListed (owedFacets width s) faces)) (lackOf v s) at (readItems width v faces (at + width) (before ++ (s ∷ [])) rest))
+  item-passed : refusal_of width v before s ≡ 0 → (leb width 2 ≡ false → all_listed (owed_facets width s) faces ≡ true → sound_simplex v s ≡ true)
+      → (read_items width v faces at before (s ∷ rest)
+      ≡ refuse_if (not (all_listed (owed_facets width s) faces)) (lack_of v s) at (read_items width v faces (at + width) (before ++ (s ∷ [])) rest))
       × (listed s before ≡ false)
-  unfolding readItems refusalOf lackOf
+  unfolding read_items refusal_of lack_of
   item-passed h k =
-      checked-passed at _ (leb width 2) (soundSimplex v s) (listed s before) (allListed (owedFacets width s) faces) h k
+      checked-passed at _ (leb width 2) (sound_simplex v s) (listed s before) (all_listed (owed_facets width s) faces) h k
 
 -- no simplex of no faces is unsound
 none-listed : (v : ℕ) → AllSound v []
@@ -83,21 +83,21 @@ pub record Taking (p : List ℕ) (base v width count at : ℕ) (keys₀ first₀
   pub taken : width * count ≡ at
   pub within : at ≤ length p
   pub rest : (faces : List format.Simplex) → AllSound v faces
-      → readItems width v faces base [] (items_of width p)
-      ≡ facesJudged width v faces base (simplicesIn width keys count)
-      (readItems width v faces (base + at) (simplicesIn width keys count) (items_of width (drop at p)))
-  pub own : (i : ℕ) → i < count → get_or (simplicesIn width keys count) i [] ≡ take width (drop (width * i) p)
-  pub proper : Proper width (simplicesIn width keys count)
-  pub indexed : Indexed (simplicesIn width keys count) keys first next count
+      → read_items width v faces base [] (items_of width p)
+      ≡ faces_judged width v faces base (simplices_in width keys count)
+      (read_items width v faces (base + at) (simplices_in width keys count) (items_of width (drop at p)))
+  pub own : (i : ℕ) → i < count → get_or (simplices_in width keys count) i [] ≡ take width (drop (width * i) p)
+  pub proper : Proper width (simplices_in width keys count)
+  pub indexed : Indexed (simplices_in width keys count) keys first next count
   pub fits : length p ≤ width * length keys₀
   pub blank : Blank first₀ next₀
   pub keys_kept : length keys ≡ length keys₀
-  pub first-kept : length first ≡ length first₀
-  pub next-kept : length next ≡ length next₀
+  pub first_kept : length first ≡ length first₀
+  pub next_kept : length next ≡ length next₀
 
 module _ {p : List ℕ} {base v width : ℕ} where
   pub taking-start : {keys first next : List ℕ} → length p ≤ width * length keys → Blank first next → Taking p base v width 0 0 keys first next keys first next
-  unfolding facesJudged
+  unfolding faces_judged
   taking-start {keys} {first} {next} fits blank =
       record {
         taken = mul-zero width;
@@ -109,18 +109,18 @@ module _ {p : List ℕ} {base v width : ℕ} where
         fits = fits;
         blank = blank;
         keys_kept = refl;
-        first-kept = refl;
-        next-kept = refl;
+        first_kept = refl;
+        next_kept = refl;
       }
 
   module _ {count at : ℕ} {keys₀ first₀ next₀ keys first next : List ℕ}
       (t : Taking p base v width count at keys₀ first₀ next₀ keys first next) (shape : Shaped p base width) where
     -- the items taken
     abbrev l : List format.Simplex
-    l = simplicesIn width keys count
+    l = simplices_in width keys count
 
     pub taking-end : length p - at < width → ItemsTaken p base v width keys first next (record { verdict = Fine; count = count })
-    unfolding readItems
+    unfolding read_items
     taking-end short = record {
       reads = λ faces sound.
           t.rest faces sound ∙ rw (items-none width (drop at p) (rw (length-drop at p) short));
@@ -142,14 +142,14 @@ module _ {p : List ℕ} {base v width : ℕ} where
           held = subst (λ (n : ℕ). length p ≤ width * n) (sym t.keys_kept) t.fits
 
       pub next-room : count < length next
-      next-room = omega (arith, room, t.blank.room, t.next-kept)
+      next-room = omega (arith, room, t.blank.room, t.next_kept)
 
       -- the next item, and what the definition reads behind it
       abbrev s : format.Simplex
       s = take width (drop at p)
 
       abbrev behind : List format.Simplex → Reading (List format.Simplex)
-      behind faces = readItems width v faces (base + at + width) (l ++ (s ∷ [])) (items_of width (drop (at + width) p))
+      behind faces = read_items width v faces (base + at + width) (l ++ (s ∷ [])) (items_of width (drop (at + width) p))
 
       next-item : items_of width (drop at p) ≡ s ∷ items_of width (drop (at + width) p)
       next-item =
@@ -159,15 +159,15 @@ module _ {p : List ℕ} {base v width : ℕ} where
       item-wide : length s ≡ width
       item-wide = length_part p at width (omega (arith, t.within))
 
-      module _ {r : ℕ} (judged : (before : List format.Simplex) → Proper width before → Keyed before keys count → r ≡ refusalOf width v before s) where
-        number_is : r ≡ refusalOf width v l s
+      module _ {r : ℕ} (judged : (before : List format.Simplex) → Proper width before → Keyed before keys count → r ≡ refusal_of width v before s) where
+        number_is : r ≡ refusal_of width v l s
         number_is = judged l t.proper t.indexed.keyed
 
         pub taking-refused : (r ≡ 0 → ⊥) → ItemsTaken p base v width keys first next (record { verdict = Refused r (base + at); count = count })
         taking-refused some = record {
           reads = λ faces sound.
               t.rest faces sound ∙ faces-same width v faces base l _ _ (λ paid.
-              ap (readItems width v faces (base + at) l) next-item
+              ap (read_items width v faces (base + at) l) next-item
               ∙ item_refused width v faces (base + at) l s _ (λ z. some (number_is ∙ z))
               (λ wide again. paid-sound width v faces sound s item-wide wide (paid s again))
               ∙ ap (λ (k : ℕ). refused k (base + at)) (sym number_is));
@@ -180,14 +180,14 @@ module _ {p : List ℕ} {base v width : ℕ} where
         pub taking-on : {keys' first' next' : List ℕ} → r ≡ 0 → Entered s keys keys' first' next' count
             → length keys' ≡ length keys → length first' ≡ length first → length next' ≡ length next
             → Taking p base v width (count + 1) (at + width) keys₀ first₀ next₀ keys' first' next'
-        taking-on {keys'} {first'} {next'} none entered keys-long first-long next-long =
+        taking-on {keys'} {first'} {next'} none entered keys_long first-long next_long =
             record {
               taken = rw (mul-add, mul-one, t.taken);
               within = omega (arith, t.within, shape);
               rest = λ faces sound.
-                  t.rest faces sound ∙ ap (facesJudged width v faces base l)
-                  (ap (readItems width v faces (base + at) l) next-item ∙ (passed faces sound).0
-                  ∙ ap (λ (a : ℕ). refuseIf (not (allListed (owedFacets width s) faces)) (lackOf v s) a (behind faces)) place)
+                  t.rest faces sound ∙ ap (faces_judged width v faces base l)
+                  (ap (read_items width v faces (base + at) l) next-item ∙ (passed faces sound).0
+                  ∙ ap (λ (a : ℕ). refuse_if (not (all_listed (owed_facets width s) faces)) (lack_of v s) a (behind faces)) place)
                   ∙ sym (faces-more width v faces base l s (behind faces)) ∙ rw (grown, add_assoc);
               own = λ i lt. ap (λ (l : List format.Simplex). get_or l i []) grown ∙ own-more i lt;
               proper = subst (Proper width) (sym grown) (proper-more l s t.proper item-wide (passed [] (none-listed v)).1);
@@ -195,13 +195,13 @@ module _ {p : List ℕ} {base v width : ℕ} where
                   (indexed-more l s t.indexed keys-room entered);
               fits = t.fits;
               blank = t.blank;
-              keys_kept = keys-long ∙ t.keys_kept;
-              first-kept = first-long ∙ t.first-kept;
-              next-kept = next-long ∙ t.next-kept;
+              keys_kept = keys_long ∙ t.keys_kept;
+              first_kept = first-long ∙ t.first_kept;
+              next_kept = next_long ∙ t.next_kept;
             }
           where
-            grown : simplicesIn width keys' (count + 1) ≡ l ++ (s ∷ [])
-            grown = ap (simplicesIn width keys') (add-one count) ∙ more-in width keys keys-room item-wide entered
+            grown : simplices_in width keys' (count + 1) ≡ l ++ (s ∷ [])
+            grown = ap (simplices_in width keys') (add-one count) ∙ more-in width keys keys-room item-wide entered
 
             place : base + at ≡ base + width * length l
             place = ap (λ (a : ℕ). base + a) (sym t.taken ∙ ap (λ (n : ℕ). width * n) t.indexed.keyed.count)
@@ -218,8 +218,8 @@ module _ {p : List ℕ} {base v width : ℕ} where
             ]
 
             passed : (faces : List format.Simplex) → AllSound v faces
-                → (readItems width v faces (base + at) l (s ∷ items_of width (drop (at + width) p))
-                ≡ refuseIf (not (allListed (owedFacets width s) faces)) (lackOf v s) (base + at) (behind faces)) × (listed s l ≡ false)
+                → (read_items width v faces (base + at) l (s ∷ items_of width (drop (at + width) p))
+                ≡ refuse_if (not (all_listed (owed_facets width s) faces)) (lack_of v s) (base + at) (behind faces)) × (listed s l ≡ false)
             passed faces sound =
                 item-passed width v faces (base + at) l s _ (sym number_is ∙ none)
                 (λ wide paid. paid-sound width v faces sound s item-wide wide paid)

@@ -2,32 +2,32 @@
 -- are all listed is sound, since they are, so 6 is asked of one that is no edge only where it lacks a facet.
 use Rattle.std.specs.Prelude.{ℕ, ◌+◌, ◌-◌, ◌*◌, ◌^◌, ◌≤◌, ◌<◌, ◌≡◌, Bool, not, cond, ◌&&◌, List, [], ◌∷◌, length, get_or, take, drop, leb}
 use Rattle.format.specs.Numbers.{vertex, twice, face}
-use Rattle.format.specs.Simplex.{Simplex, soundSimplex, listed, allListed}
-use Rattle.format.specs.Reading.{Reading, refuseIf, owedFacets, items_of, readItems}
+use Rattle.format.specs.Simplex.{Simplex, sound_simplex, listed, all_listed}
+use Rattle.format.specs.Reading.{Reading, refuse_if, owed_facets, items_of, read_items}
 use Rattle.format.specs.Sound.{AllSound}
 use Rattle.lists.specs.Verdicts.{reading_of}
 use Rattle.lookup.specs.Indexed.{Proper, Keyed, Indexed}
-use Rattle.lookup.specs.Numbered.{simplicesIn}
+use Rattle.lookup.specs.Numbered.{simplices_in}
 use Rattle.reading_lists.specs.declared.ItemsRead.{ItemsRead}
 
 -- an edge that breaks rule 6
-abbrev pub unsoundEdge : (width v : ℕ) → Simplex → Bool
-unsoundEdge width v s = leb width 2 && not (soundSimplex v s)
+abbrev pub unsound_edge : (width v : ℕ) → Simplex → Bool
+unsound_edge width v s = leb width 2 && not (sound_simplex v s)
 
 -- the first of 6, asked of edges, and 7 that refuses an item, behind the items `before`; 0 where neither does
-unfoldable pub refusalOf : (width v : ℕ) (before : List Simplex) → Simplex → ℕ
-refusalOf width v before s = cond (unsoundEdge width v s) vertex (cond (listed s before) twice 0)
+unfoldable pub refusal_of : (width v : ℕ) (before : List Simplex) → Simplex → ℕ
+refusal_of width v before s = cond (unsound_edge width v s) vertex (cond (listed s before) twice 0)
 
 -- what an item that lacks a facet is refused with: 6 comes before 8
-unfoldable pub lackOf : ℕ → Simplex → ℕ
-lackOf v s = cond (soundSimplex v s) face vertex
+unfoldable pub lack_of : ℕ → Simplex → ℕ
+lack_of v s = cond (sound_simplex v s) face vertex
 
 -- Rule 8 over items of which the first stands at `at`: the first that lacks a facet it owes is refused, and where none does, the
 -- reading is the one behind them.
-unfoldable pub facesJudged : (width v : ℕ) (faces : List Simplex) (at : ℕ) → List Simplex → Reading (List Simplex) → Reading (List Simplex)
-facesJudged width v faces at [] behind = behind
-facesJudged width v faces at (s ∷ rest) behind =
-    refuseIf (not (allListed (owedFacets width s) faces)) (lackOf v s) at (facesJudged width v faces (at + width) rest behind)
+unfoldable pub faces_judged : (width v : ℕ) (faces : List Simplex) (at : ℕ) → List Simplex → Reading (List Simplex) → Reading (List Simplex)
+faces_judged width v faces at [] behind = behind
+faces_judged width v faces at (s ∷ rest) behind =
+    refuse_if (not (all_listed (owed_facets width s) faces)) (lack_of v s) at (faces_judged width v faces (at + width) rest behind)
 
 -- the list of the facets, all sound, of which the first m keys are the numbers
 pub record FacesIn (width v : ℕ) (faces : List Simplex) (keys : List ℕ) (m : ℕ) : Type 0 where
@@ -36,8 +36,8 @@ pub record FacesIn (width v : ℕ) (faces : List Simplex) (keys : List ℕ) (m :
   pub keyed : Keyed faces keys m
 
 -- the simplices that were read, whose numbers are the first keys, or the refusal
-abbrev pub itemsRead : (width : ℕ) → List ℕ → ItemsRead → Reading (List Simplex)
-itemsRead width keys r = reading_of r.verdict (simplicesIn width keys r.count)
+abbrev pub items_read : (width : ℕ) → List ℕ → ItemsRead → Reading (List Simplex)
+items_read width keys r = reading_of r.verdict (simplices_in width keys r.count)
 
 -- What a record of the right shape has: a list's width, no more items than a list holds, and places that are numbers of
 -- the machine.
@@ -51,8 +51,8 @@ pub record Shaped (p : List ℕ) (base width : ℕ) : Type 0 where
 -- items taken, from the first on, and where it refuses none of them, what was told when they were taken.
 pub record ItemsTaken (p : List ℕ) (base v width : ℕ) (keys first next : List ℕ) (r : ItemsRead) : Type 0 where
   pub reads : (faces : List Simplex) → AllSound v faces
-      → readItems width v faces base [] (items_of width p) ≡ facesJudged width v faces base (simplicesIn width keys r.count) (itemsRead width keys r)
-  pub own : (i : ℕ) → i < r.count → get_or (simplicesIn width keys r.count) i [] ≡ take width (drop (width * i) p)
-  pub proper : Proper width (simplicesIn width keys r.count)
-  pub indexed : Indexed (simplicesIn width keys r.count) keys first next r.count
+      → read_items width v faces base [] (items_of width p) ≡ faces_judged width v faces base (simplices_in width keys r.count) (items_read width keys r)
+  pub own : (i : ℕ) → i < r.count → get_or (simplices_in width keys r.count) i [] ≡ take width (drop (width * i) p)
+  pub proper : Proper width (simplices_in width keys r.count)
+  pub indexed : Indexed (simplices_in width keys r.count) keys first next r.count
   pub within : width * r.count ≤ length p

@@ -1,11 +1,11 @@
 // The reader of a list's items: one function for edges, triangles and tetrahedra, which differ in the number of vertices. An item
 // is its number, which is looked up, so that the lists are neither gone through nor copied.
 ghost use Rattle.std.specs.Prelude.{◌≡◌, List, ◌+◌, ◌*◌, ◌≤◌, ◌<◌, length, get_or, take, drop};
-ghost use Rattle.format.specs.Simplex.{soundSimplex, listed};
+ghost use Rattle.format.specs.Simplex.{sound_simplex, listed};
 ghost use Rattle.format.specs.Simplex as format;
 ghost use Rattle.keys.specs.Chained.{Chained};
 ghost use Rattle.lookup.specs.Indexed.{NumberOf, Keyed, Proper, Blank};
-ghost use Rattle.reading_lists.specs.Items.{refusalOf, Shaped, ItemsTaken, unsoundEdge, lackOf};
+ghost use Rattle.reading_lists.specs.Items.{refusal_of, Shaped, ItemsTaken, unsound_edge, lack_of};
 
 use lists::{Found, Verdict};
 
@@ -43,7 +43,7 @@ fn number_at(p: &[u8], at: usize, width: usize) -> u64
 // Whether the vertices rise strictly and are all below v.
 fn sound_at(p: &[u8], at: usize, width: usize, v: u16) -> bool
     requires { at + width ≤ length p.now }
-    ensures { result ≡ soundSimplex v (take width (drop at p.now)) }
+    ensures { result ≡ sound_simplex v (take width (drop at p.now)) }
 {
     let mut least: u16 = 0;
     let mut i = 0;
@@ -77,7 +77,7 @@ fn entered(keys: &[u64], first: &[u16], next: &[u16], n: usize, number: u64) -> 
 // is missing.
 fn unsound_edge(p: &[u8], at: usize, width: usize, v: u16) -> bool
     requires { at + width ≤ length p.now }
-    ensures { result ≡ unsoundEdge width v (take width (drop at p.now)) }
+    ensures { result ≡ unsound_edge width v (take width (drop at p.now)) }
 {
     if 2 < width {
         return false;
@@ -88,7 +88,7 @@ fn unsound_edge(p: &[u8], at: usize, width: usize, v: u16) -> bool
 // What an item that lacks a facet is refused with: 6 vertex comes before 8 face.
 pub fn lack_at(p: &[u8], at: usize, width: usize, v: u16) -> u16
     requires { at + width ≤ length p.now }
-    ensures { result ≡ lackOf v (take width (drop at p.now)) }
+    ensures { result ≡ lack_of v (take width (drop at p.now)) }
 {
     if sound_at(p, at, width, v) {
         return Verdict::FACE;
@@ -112,7 +112,7 @@ fn judge(
     requires chained { Chained keys.now first.now next.now n }
     requires width_in_bounds { at + width ≤ length p.now }
     requires number_of { NumberOf (take width (drop at p.now)) number }
-    ensures { (before : List format.Simplex) → Proper width before → Keyed before keys.now n → result ≡ refusalOf width v before (take width (drop at p.now)) }
+    ensures { (before : List format.Simplex) → Proper width before → Keyed before keys.now n → result ≡ refusal_of width v before (take width (drop at p.now)) }
 {
     if unsound_edge(p, at, width, v) {
         return Verdict::VERTEX;

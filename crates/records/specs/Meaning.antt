@@ -5,10 +5,10 @@ use Rattle.format.specs.Reading as format
 use Rattle.records.specs.declared.Header.{Header}
 use Rattle.records.specs.declared.Header.TheVariants.{Ended, Broken, Whole}
 
-abbrev pub headerOf : Header → format.Header
-headerOf Ended = ended
-headerOf Broken = broken
-headerOf (Whole kind size) = whole kind size
+abbrev pub header_of : Header → format.Header
+header_of Ended = ended
+header_of Broken = broken
+header_of (Whole kind size) = whole kind size
 
 -- a number that was read: its value, and a bound that its bytes give it
 pub record Reads (value bound r : ℕ) : Type 0 where

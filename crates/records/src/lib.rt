@@ -1,8 +1,8 @@
 // The record reader: little-endian numbers, a record's header, and its payload as that part of the caller's bytes.
 // No call asks anything of its caller: past the end of the bytes a number reads as 0 and a payload is what is left.
 ghost use Rattle.std.specs.Prelude.{◌≡◌, get_or};
-ghost use Rattle.format.specs.Reading.{u16At, u32_at, header_at, payloadAt};
-ghost use Rattle.records.specs.Meaning.{headerOf, Reads};
+ghost use Rattle.format.specs.Reading.{u16_at, u32_at, header_at, payload_at};
+ghost use Rattle.records.specs.Meaning.{header_of, Reads};
 
 // What stands at a place of the file.
 #[derive(Drop)]
@@ -34,7 +34,7 @@ pub fn byte_at(s: &[u8], at: usize) -> usize
 
 // Two bytes, little-endian.
 pub fn u16_at(s: &[u8], at: usize) -> usize
-    ensures { Reads (u16At s.now at) 65536 result }
+    ensures { Reads (u16_at s.now at) 65536 result }
 {
     if at < s.len() {
         byte_at(s, at) + 256 * byte_at(s, at + 1)
@@ -56,7 +56,7 @@ pub fn u32_at(s: &[u8], at: usize) -> usize
 
 // What stands at a place: the end, a broken record or a whole one.
 pub fn header_at(job: &[u8], at: usize) -> Header
-    ensures { headerOf result ≡ header_at job.now at }
+    ensures { header_of result ≡ header_at job.now at }
 {
     let end = job.len();
     if end <= at {
@@ -76,7 +76,7 @@ pub fn header_at(job: &[u8], at: usize) -> Header
 
 // A record's payload, as that part of the caller's bytes.
 pub fn payload<'a>(job: &'a [u8], at: usize, size: usize) -> &'a [u8]
-    ensures { result.now ≡ payloadAt job.now at size }
+    ensures { result.now ≡ payload_at job.now at size }
 {
     let end = job.len();
     if end <= at {

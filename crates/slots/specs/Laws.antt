@@ -8,10 +8,10 @@ use Rattle.chains.specs.Chain.{Chain, empty, unit, only, Under, SmallestInClass}
 use Rattle.echelon.specs.Loops.{echelon-start, Reducing, reducing-start, reducing-skip, reducing-add}
 use Rattle.echelon.specs.Loops.{Put, insert-dropped, insert-kept, fill-found, fill_none}
 use Rattle.echelon.specs.Loops.{Classing, class-start, class-skip, class-vacant, class-add, class-done}
-use Rattle.columns.specs.Slot.{roomOf, chainR, chainV, slot, takenAt, storeSlot}
+use Rattle.columns.specs.Slot.{room_of, chain_r, chain_v, slot, taken_at, store_slot}
 use Rattle.columns.specs.SlotLaws.{slot-stored, slot_kept}
-use Rattle.columns.specs.Reduce.{redBytes, Settled, settled, Settles, Inserts, stored_at, takenWith, Ends}
-use Rattle.columns.specs.Reduce.{slotRows, slotColumns, takenOnly, keptRows, Pivots}
+use Rattle.columns.specs.Reduce.{red_bytes, Settled, settled, Settles, Inserts, stored_at, taken_with, Ends}
+use Rattle.columns.specs.Reduce.{slot_rows, slot_columns, taken_only, kept_rows, Pivots}
 use Rattle.columns.specs.ReduceLaws.{stuck, settled-stuck, inserts-from, length-settled, settled_at}
 use Rattle.columns.specs.ReduceChains.{kept-vacant, settle-chains, red-chains}
 use Rattle.columns.specs.declared.Highest.{Highest}
@@ -21,11 +21,11 @@ use Rattle.slots.specs.declared.Filled.{Filled}
 use Rattle.slots.specs.declared.Filled.TheVariants as filled
 
 -- what a fill answers, by the row at which the reduction of the chain got stuck, if it did
-abbrev pub filledAt : Highest → Filled
-filledAt (At r) = filled.None
-filledAt Nothing = filled.Found
+abbrev pub filled_at : Highest → Filled
+filled_at (At r) = filled.None
+filled_at Nothing = filled.Found
 
-none-taken : (l r : ℕ) → takenAt (replicate l false) r ≡ false
+none-taken : (l r : ℕ) → taken_at (replicate l false) r ≡ false
 none-taken zero r = refl
 none-taken (suc l) zero = refl
 none-taken (suc l) (suc r) = none-taken l r
@@ -35,48 +35,48 @@ module _ (h : ℕ) (work : List ℕ) (l : ℕ) where
   pub no-columns : (D : ℕ → Chain) (n m : ℕ) → SlotsIn h work (replicate l false) D n m 0
   no-columns D n m = record {
     echelon = echelon-start D n m _ _
-        (λ r low. kept-vacant (replicate l false) r (slotRows h work) (none-taken l r))
-        (λ r low. kept-vacant (replicate l false) r (slotColumns h work) (none-taken l r));
+        (λ r low. kept-vacant (replicate l false) r (slot_rows h work) (none-taken l r))
+        (λ r low. kept-vacant (replicate l false) r (slot_columns h work) (none-taken l r));
     pivots = λ r e. absurd (false≢true (sym (none-taken l r) ∙ e));
   }
 
 -- A pair that holds row r, stored in slot r, which is taken then, is put into that slot.
-module _ (h : ℕ) (work : List ℕ) (taken : List Bool) (room : roomOf h ≤ length work) (r : ℕ) (low : r < 8 * h)
+module _ (h : ℕ) (work : List ℕ) (taken : List Bool) (room : room_of h ≤ length work) (r : ℕ) (low : r < 8 * h)
     (listed : r < length taken) (left : List ℕ) (long : length left ≡ 2 * h) where
-  own-slot : takenAt (set taken r true) r ≡ true
+  own-slot : taken_at (set taken r true) r ≡ true
   own-slot = get_or-set_same taken r true false listed
 
-  other-slot : (j : ℕ) → j ≢ r → takenAt (set taken r true) j ≡ takenAt taken j
+  other-slot : (j : ℕ) → j ≢ r → taken_at (set taken r true) j ≡ taken_at taken j
   other-slot j other = get_or-set_other taken r j true false other
 
   -- in the table of either half
   put_in : (half : List ℕ → Chain) (m : ℕ)
-      → Put m (takenOnly taken (λ j. half (slot h work j))) r (half left)
-      (takenOnly (set taken r true) (λ j. half (slot h (storeSlot h work r left) j)))
+      → Put m (taken_only taken (λ j. half (slot h work j))) r (half left)
+      (taken_only (set taken r true) (λ j. half (slot h (store_slot h work r left) j)))
   put_in half m = record {
     here =
-        ap (λ b. only b (half (slot h (storeSlot h work r left) r))) own-slot
+        ap (λ b. only b (half (slot h (store_slot h work r left) r))) own-slot
         ∙ ap half (slot-stored h work r low room left long);
     others = λ j l other.
         ap₂ (λ b c. only b (half c)) (other-slot j other) (slot_kept h work r low room left long j other);
   }
 
   -- so every slot that is taken still holds its own row
-  pivots-put : chainR h left r ≡ true → Pivots h work taken → Pivots h (storeSlot h work r left) (set taken r true)
+  pivots-put : chain_r h left r ≡ true → Pivots h work taken → Pivots h (store_slot h work r left) (set taken r true)
   pivots-put held pivots j e = elim (ℕ_discrete j r) [
-    | yes same ↦ subst (λ i. chainR h (slot h (storeSlot h work r left) i) i ≡ true) (sym same)
-        (ap (λ c. chainR h c r) (slot-stored h work r low room left long) ∙ held)
-    | no other ↦ ap (λ c. chainR h c j) (slot_kept h work r low room left long j other)
+    | yes same ↦ subst (λ i. chain_r h (slot h (store_slot h work r left) i) i ≡ true) (sym same)
+        (ap (λ c. chain_r h c r) (slot-stored h work r low room left long) ∙ held)
+    | no other ↦ ap (λ c. chain_r h c j) (slot_kept h work r low room left long j other)
         ∙ pivots j (sym (other-slot j other) ∙ e)
   ]
 
-module _ {h m : ℕ} {work : List ℕ} {taken : List Bool} {cur : List ℕ} (low : m ≤ 8 * h) (room : roomOf h ≤ length work)
+module _ {h m : ℕ} {work : List ℕ} {taken : List Bool} {cur : List ℕ} (low : m ≤ 8 * h) (room : room_of h ≤ length work)
     (whole : length cur ≡ 2 * h) where
   -- A reduction that has settled is one of the endings, whatever chain was in hand.
   settled-reducing : {D : ℕ → Chain} {n k : ℕ} {start first : Chain} {answer : Highest} {left : List ℕ}
       → SlotsIn h work taken D n m k → Settles h work taken m cur answer left → Under m start
-      → chainR h cur ≡ start → chainV h cur ≡ first
-      → Ends (Reducing D n k start first) (keptRows h work taken) answer (chainR h left) (chainV h left)
+      → chain_r h cur ≡ start → chain_v h cur ≡ first
+      → Ends (Reducing D n k start first) (kept_rows h work taken) answer (chain_r h left) (chain_v h left)
   settled-reducing {D} {n} {k} {start} {first} {answer} {left} slots s u er ev =
       settle-chains h work taken room slots.pivots (Reducing D n k start first) m low
       (λ r c v l p out. reducing-skip r refl p out)
@@ -85,25 +85,25 @@ module _ {h m : ℕ} {work : List ℕ} {taken : List Bool} {cur : List ℕ} (low
       (subst₂ (Reducing D n k start first m) (sym er) (sym ev) (reducing-start D n m k start first u))
 
   -- an insertion may begin at any row above those that the pair holds
-  pub puts-in : {top : ℕ} {answer : Highest} {left after : List ℕ} {takenAfter : List Bool} → top ≤ length taken
-      → top ≤ m → Under top (chainR h cur) → Inserts h work taken top cur answer left after takenAfter → PutsIn h m work taken cur after takenAfter
-  puts-in {top} {answer} {left} {after} {takenAfter} listed le held from-top = record { next = next }
+  pub puts-in : {top : ℕ} {answer : Highest} {left after : List ℕ} {taken_after : List Bool} → top ≤ length taken
+      → top ≤ m → Under top (chain_r h cur) → Inserts h work taken top cur answer left after taken_after → PutsIn h m work taken cur after taken_after
+  puts-in {top} {answer} {left} {after} {taken_after} listed le held from-top = record { next = next }
     where
-      s : Inserts h work taken m cur answer left after takenAfter
+      s : Inserts h work taken m cur answer left after taken_after
       s = inserts-from h work taken le held from-top
 
       long : length left ≡ 2 * h
       long = ap length s.settles.what-left ∙ length-settled h work taken m cur ∙ whole
 
       next : (D : ℕ → Chain) (n k : ℕ) → k < n → Under m (D k) → SlotsIn h work taken D n m k
-          → chainR h cur ≡ D k → chainV h cur ≡ unit k → SlotsIn h after takenAfter D n m (suc k)
+          → chain_r h cur ≡ D k → chain_v h cur ≡ unit k → SlotsIn h after taken_after D n m (suc k)
       next D n k lt u slots er ev =
           subst₂ (λ a t. SlotsIn h a t D n m (suc k)) (sym s.stored) (sym s.marked)
           (go answer refl (settled-reducing slots s.settles u er ev))
         where
           go : (a : Highest) → answer ≡ a
-              → Ends (Reducing D n k (D k) (unit k)) (keptRows h work taken) a (chainR h left) (chainV h left)
-              → SlotsIn h (stored_at h work a left) (takenWith taken a) D n m (suc k)
+              → Ends (Reducing D n k (D k) (unit k)) (kept_rows h work taken) a (chain_r h left) (chain_v h left)
+              → SlotsIn h (stored_at h work a left) (taken_with taken a) D n m (suc k)
           go Nothing e p = record { echelon = insert-dropped lt slots.echelon p; pivots = slots.pivots }
           go (At r) e p =
               let below : r < m = (settled_at h work taken m cur r (sym s.settles.where-stuck ∙ e)).0 in
@@ -112,14 +112,14 @@ module _ {h m : ℕ} {work : List ℕ} {taken : List Bool} {cur : List ℕ} (low
               omega (arith, (settled_at h work taken top cur r (sym from-top.settles.where-stuck ∙ e)).0, listed) in
               record {
                 echelon = insert-kept lt slots.echelon refl p.0 below p.2 p.1 _ _
-                    (put_in h work taken room r inside known left long (chainR h) m)
-                    (put_in h work taken room r inside known left long (chainV h) m);
+                    (put_in h work taken room r inside known left long (chain_r h) m)
+                    (put_in h work taken room r inside known left long (chain_v h) m);
                 pivots = pivots-put h work taken room r inside known left long p.1 slots.pivots;
               }
 
   -- a pair whose highest row has a slot that is not taken is stuck there from the start, so it may be stored as it is
-  pub puts-at-once : {top : ℕ} → top < length taken → top < m → Under (suc top) (chainR h cur) → chainR h cur top ≡ true
-      → takenAt taken top ≡ false → PutsIn h m work taken cur (storeSlot h work top cur) (set taken top true)
+  pub puts-at-once : {top : ℕ} → top < length taken → top < m → Under (suc top) (chain_r h cur) → chain_r h cur top ≡ true
+      → taken_at taken top ≡ false → PutsIn h m work taken cur (store_slot h work top cur) (set taken top true)
   puts-at-once {top} listed le under held vacant =
       let at_top : settled h work taken (suc top) cur ≡ record { at = At top; cur = cur } =
       settled-stuck h work taken top cur (stuck h work taken top cur held vacant) in
@@ -136,33 +136,33 @@ module _ {h m : ℕ} {work : List ℕ} {taken : List Bool} {cur : List ℕ} (low
 
   -- Through with all rows, what was collected is the smallest filling; stuck, there is none.
   pub fills-in : {answer a : Highest} {left : List ℕ} → Settles h work taken m cur answer left → answer ≡ a
-      → FillsIn h m work taken cur (filledAt a) left
+      → FillsIn h m work taken cur (filled_at a) left
   fills-in {answer} {a} {left} s e = record { answers = answers }
     where
       answers : (D : ℕ → Chain) (n : ℕ) (A : Chain) → SlotsIn h work taken D n m n → Under m A
-          → chainR h cur ≡ A → chainV h cur ≡ empty → Answers D n A (filledAt a) (chainV h left)
+          → chain_r h cur ≡ A → chain_v h cur ≡ empty → Answers D n A (filled_at a) (chain_v h left)
       answers D n A slots u er ev =
           go a e
-          (subst (λ x. Ends (Reducing D n n A empty) (keptRows h work taken) x (chainR h left) (chainV h left)) e
+          (subst (λ x. Ends (Reducing D n n A empty) (kept_rows h work taken) x (chain_r h left) (chain_v h left)) e
           (settled-reducing slots s u er ev))
         where
-          go : (a : Highest) → answer ≡ a → Ends (Reducing D n n A empty) (keptRows h work taken) a (chainR h left) (chainV h left)
-              → Answers D n A (filledAt a) (chainV h left)
+          go : (a : Highest) → answer ≡ a → Ends (Reducing D n n A empty) (kept_rows h work taken) a (chain_r h left) (chain_v h left)
+              → Answers D n A (filled_at a) (chain_v h left)
           go Nothing e p = fill-found slots.echelon p
           go (At r) e p =
               let below : r < m = (settled_at h work taken m cur r (sym s.where-stuck ∙ e)).0 in
               fill_none slots.echelon refl p.0 below p.2 p.1
 
-  pub classes-in : {left : List ℕ} → left ≡ redBytes h work taken m cur → ClassesIn h m work taken cur left
+  pub classes-in : {left : List ℕ} → left ≡ red_bytes h work taken m cur → ClassesIn h m work taken cur left
   classes-in {left} e = record { smallest = smallest }
     where
       smallest : (D : ℕ → Chain) (n : ℕ) (A : Chain) → SlotsIn h work taken D n m n → ((i : ℕ) → i < n → Under m (D i))
-          → Under m A → chainR h cur ≡ A → SmallestInClass D n m A (chainR h left)
+          → Under m A → chain_r h cur ≡ A → SmallestInClass D n m A (chain_r h left)
       smallest D n A slots columns u er =
-          subst (λ l. SmallestInClass D n m A (chainR h l)) (sym e)
+          subst (λ l. SmallestInClass D n m A (chain_r h l)) (sym e)
           (class-done slots.echelon columns u
-          (red-chains h work taken room slots.pivots (λ i now v. Classing (keptRows h work taken) m A i now) m low
+          (red-chains h work taken room slots.pivots (λ i now v. Classing (kept_rows h work taken) m A i now) m low
           (λ r c v l p out. class-skip r refl p out)
           (λ r c v l p held full. class-add r refl p held refl)
           (λ r c v l p held out. class-vacant r refl p (slots.echelon.vacant r l out))
-          cur whole (subst (Classing (keptRows h work taken) m A m) (sym er) (class-start (keptRows h work taken) m A))))
+          cur whole (subst (Classing (kept_rows h work taken) m A m) (sym er) (class-start (kept_rows h work taken) m A))))

@@ -3,7 +3,7 @@
 // all false no column is in the slots, whatever the memory holds: a slot that is not taken is not read.
 ghost use Rattle.std.specs.Prelude.{◌≡◌, ℕ, ◌*◌, ◌≤◌, length};
 ghost use Rattle.chains.specs.Chain.{Under};
-ghost use Rattle.columns.specs.Slot.{roomOf, chainR};
+ghost use Rattle.columns.specs.Slot.{room_of, chain_r};
 ghost use Rattle.slots.specs.Slots.{PutsIn, FillsIn, ClassesIn};
 
 use columns::{Highest, insert, reduce, settle};
@@ -12,11 +12,11 @@ use columns::{Highest, insert, reduce, settle};
 // on, and its rank alone.
 pub fn insert_column(work: &mut [u8], cur: &mut [u8], taken: &mut [bool], h: usize, top: usize)
     requires top_bound { top ≤ 8 * h }
-    requires h_in_bounds { roomOf h ≤ length work.old }
+    requires h_in_bounds { room_of h ≤ length work.old }
     requires cur_len { length cur.old ≡ 2 * h }
     requires top_in_bounds { top ≤ length taken.old }
     requires le_h { 8 ≤ h }
-    ensures { (m : ℕ) → top ≤ m → m ≤ 8 * h → Under top (chainR h cur.old) → PutsIn h m work.old taken.old cur.old work.new taken.new }
+    ensures { (m : ℕ) → top ≤ m → m ≤ 8 * h → Under top (chain_r h cur.old) → PutsIn h m work.old taken.old cur.old work.new taken.new }
 {
     insert(work, cur, taken, h, top);
 }
@@ -31,7 +31,7 @@ pub enum Filled {
 // Fills the chain in hand: where it answers `Found`, the pair in hand then holds the smallest filling.
 pub fn fill_in(cur: &mut [u8], work: &[u8], taken: &[bool], h: usize, rows: usize) -> Filled
     requires rows_bound { rows ≤ 8 * h }
-    requires h_in_bounds { roomOf h ≤ length work.now }
+    requires h_in_bounds { room_of h ≤ length work.now }
     requires cur_len { length cur.old ≡ 2 * h }
     requires rows_in_bounds { rows ≤ length taken.now }
     requires le_h { 8 ≤ h }
@@ -47,7 +47,7 @@ pub fn fill_in(cur: &mut [u8], work: &[u8], taken: &[bool], h: usize, rows: usiz
 // Makes the chain in hand the smallest of its class.
 pub fn class_in(cur: &mut [u8], work: &[u8], taken: &[bool], h: usize, rows: usize)
     requires rows_bound { rows ≤ 8 * h }
-    requires h_in_bounds { roomOf h ≤ length work.now }
+    requires h_in_bounds { room_of h ≤ length work.now }
     requires cur_len { length cur.old ≡ 2 * h }
     requires rows_in_bounds { rows ≤ length taken.now }
     requires le_h { 8 ≤ h }

@@ -7,17 +7,17 @@ use mathlib.Core.List.{List, []}
 use lib.ListN.{length, get_or}
 use Rattle.chains.specs.Chain.{Chain, ◌⊕◌}
 use Rattle.chains.specs.Sum.{sum-assoc, sum-empty}
-use Rattle.format.specs.Simplex.{Simplex, simplexBoundary}
+use Rattle.format.specs.Simplex.{Simplex, simplex_boundary}
 use Rattle.format.specs.Reading.{without}
 use Rattle.format.specs.Listed.{rank-stands}
 use Rattle.columns.specs.Column.{flipped}
 use Rattle.columns.specs.ColumnLaws.{length-flipped}
-use Rattle.columns.specs.Slot.{chainR, chainV}
-use Rattle.columns.specs.PairLaws.{flipped-R, flipped-R-keeps}
+use Rattle.columns.specs.Slot.{chain_r, chain_v}
+use Rattle.columns.specs.PairLaws.{flipped-r, flipped-r-keeps}
 use Rattle.lookup.specs.Sides.{Sides}
 use Rattle.lookup.specs.SidesLaws.{sides-last}
 use Rattle.solver.specs.Columns.{MatrixIn, SidesWithin, AddsBoundary}
-use Rattle.solver.proofs.Facets.{leftOver, all_left, none_left, last-left}
+use Rattle.solver.proofs.Facets.{left_over, all_left, none_left, last-left}
 
 -- EACH COLUMN of a matrix has its sides, so what is said of all simplices with these sides is said of it.
 pub column-sides : {h size m n i : ℕ} {sides : List ℕ} (k : MatrixIn h size m sides n) → i < n
@@ -34,22 +34,22 @@ column-within {i = i} k lt fits = record {
   sized = k.wide i lt;
   some = k.some;
   sided = column-sides k lt;
-  few = omega (arith, k.few-rows);
+  few = omega (arith, k.few_rows);
 }
 
 pub record Adding (rows : List Simplex) (s : Simplex) (start cur : List ℕ) (left sides : ℕ) : Type 0 where
   pub long : length cur ≡ length start
   pub sided : Sides rows s left sides
   pub rest : (h : ℕ) → length start ≡ 2 * h → length rows ≤ 8 * h
-      → chainR h cur ⊕ leftOver rows s left ≡ chainR h start ⊕ simplexBoundary rows s
-  pub keeps : (h : ℕ) → length start ≡ 2 * h → length rows ≤ 8 * h → chainV h cur ≡ chainV h start
+      → chain_r h cur ⊕ left_over rows s left ≡ chain_r h start ⊕ simplex_boundary rows s
+  pub keeps : (h : ℕ) → length start ≡ 2 * h → length rows ≤ 8 * h → chain_v h cur ≡ chain_v h start
 
 pub adding-start : (rows : List Simplex) (s : Simplex) (start : List ℕ) (left sides : ℕ) → length s ≡ left → Sides rows s left sides
     → Adding rows s start start left sides
 adding-start rows s start left sides e sided = record {
   long = refl;
   sided = sided;
-  rest = λ h long fits. ap (λ c. chainR h start ⊕ c) (all_left rows s left e);
+  rest = λ h long fits. ap (λ c. chain_r h start ⊕ c) (all_left rows s left e);
   keeps = λ h long fits. refl;
 }
 
@@ -57,8 +57,8 @@ module _ {rows : List Simplex} {s : Simplex} {start cur : List ℕ} {left sides 
   pub adding-end : left ≤ 0 → AddsBoundary rows s start cur
   adding-end none = record {
     adds = λ h long fits.
-        sym (sum-empty (chainR h cur))
-        ∙ ap (λ (c : Chain). chainR h cur ⊕ c) (sym (fun_ext (none_left rows s left none)))
+        sym (sum-empty (chain_r h cur))
+        ∙ ap (λ (c : Chain). chain_r h cur ⊕ c) (sym (fun_ext (none_left rows s left none)))
         ∙ a.rest h long fits;
     keeps = a.keeps;
   }
@@ -74,14 +74,14 @@ module _ {rows : List Simplex} {s : Simplex} {start cur : List ℕ} {left sides 
       long = ap length put ∙ length-flipped cur (sides % 65536) ∙ a.long;
       sided = (sides-last a.sided some).1;
       rest = λ h whole fits.
-          ap (λ (l : List ℕ). chainR h l ⊕ leftOver rows s (left - 1)) put
-          ∙ ap (λ (c : Chain). c ⊕ leftOver rows s (left - 1))
-          (flipped-R h cur (a.long ∙ whole) (sides % 65536) (omega (arith, rank_below)))
-          ∙ sum-assoc (chainR h cur) _ _
-          ∙ ap (λ (c : Chain). chainR h cur ⊕ c) (sym (last-left rows s left some (sides-last a.sided some).0))
+          ap (λ (l : List ℕ). chain_r h l ⊕ left_over rows s (left - 1)) put
+          ∙ ap (λ (c : Chain). c ⊕ left_over rows s (left - 1))
+          (flipped-r h cur (a.long ∙ whole) (sides % 65536) (omega (arith, rank_below)))
+          ∙ sum-assoc (chain_r h cur) _ _
+          ∙ ap (λ (c : Chain). chain_r h cur ⊕ c) (sym (last-left rows s left some (sides-last a.sided some).0))
           ∙ a.rest h whole fits;
       keeps = λ h whole fits.
-          ap (chainV h) put
-          ∙ flipped-R-keeps h cur (a.long ∙ whole) (sides % 65536) (omega (arith, rank_below))
+          ap (chain_v h) put
+          ∙ flipped-r-keeps h cur (a.long ∙ whole) (sides % 65536) (omega (arith, rank_below))
           ∙ a.keeps h whole fits;
     }

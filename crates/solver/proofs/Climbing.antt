@@ -9,13 +9,13 @@ use mathlib.Core.List.{List, []}
 use lib.ListN.{length, get_or}
 use Rattle.chains.specs.Chain.{Chain, differ, unit}
 use Rattle.chains.specs.Boundary.{unit-here, unit-else}
-use Rattle.format.specs.Simplex.{Simplex, risingFrom, ranked, rank, simplexBoundary}
+use Rattle.format.specs.Simplex.{Simplex, rising_from, ranked, rank, simplex_boundary}
 use Rattle.format.specs.Reading.{without}
 use Rattle.format.specs.Listed.{rank-stands}
 use Rattle.lookup.specs.Sides.{Sides}
 use Rattle.lookup.specs.SidesLaws.{sides-last}
 use Rattle.solver.specs.Columns.{HighestSide}
-use Rattle.solver.proofs.Facets.{leftOver, all_left, none_left, last-left, facets-differ}
+use Rattle.solver.proofs.Facets.{left_over, all_left, none_left, last-left, facets-differ}
 
 -- `top` is the rank of a facet that was passed, and the highest of them
 pub record Climbing (rows : List Simplex) (s : Simplex) (left sides top : ℕ) : Type 0 where
@@ -24,19 +24,19 @@ pub record Climbing (rows : List Simplex) (s : Simplex) (left sides top : ℕ) :
   pub passed : left ≤ facet
   pub within : facet < length s
   pub own : rank (without facet s) rows ≡ ranked top
-  pub once : simplexBoundary rows s top ≡ not (leftOver rows s left top)
-  pub above : (j : ℕ) → top < j → simplexBoundary rows s j ≡ leftOver rows s left j
+  pub once : simplex_boundary rows s top ≡ not (left_over rows s left top)
+  pub above : (j : ℕ) → top < j → simplex_boundary rows s j ≡ left_over rows s left j
 
 -- One facet, whose rank is the lowest digit of the sides.
 module _ {rows : List Simplex} {s : Simplex} {left sides : ℕ} (some : 0 < left) (sided : Sides rows s left sides) where
   -- what is left at a place, by whether the facet stands there
-  without-it : (j : ℕ) {b : Bool} → unit (sides % 65536) j ≡ b → leftOver rows s left j ≡ differ b (leftOver rows s (left - 1) j)
+  without-it : (j : ℕ) {b : Bool} → unit (sides % 65536) j ≡ b → left_over rows s left j ≡ differ b (left_over rows s (left - 1) j)
   without-it j e =
       ap (λ (c : Chain). c j) (last-left rows s left some (sides-last sided some).0)
-      ∙ ap (λ (b : Bool). differ b (leftOver rows s (left - 1) j)) e
+      ∙ ap (λ (b : Bool). differ b (left_over rows s (left - 1) j)) e
 
   -- it is the highest so far
-  to-facet : left ≤ length s → ((j : ℕ) → sides % 65536 ≤ j → simplexBoundary rows s j ≡ leftOver rows s left j)
+  to-facet : left ≤ length s → ((j : ℕ) → sides % 65536 ≤ j → simplex_boundary rows s j ≡ left_over rows s left j)
       → Climbing rows s (left - 1) (sides / 65536) (sides % 65536)
   to-facet within from = record {
     sided = (sides-last sided some).1;
@@ -61,7 +61,7 @@ module _ {rows : List Simplex} {s : Simplex} {left sides top : ℕ} (a : Climbin
     };
   }
 
-  module _ (up : risingFrom 0 s ≡ true) (some : 0 < left) where
+  module _ (up : rising_from 0 s ≡ true) (some : 0 < left) where
     -- the facet at `top` is another one, since facets differ
     other_place : sides % 65536 ≡ top → ⊥
     other_place e =

@@ -11,12 +11,12 @@ use mathlib.Core.List.{List, [], ◌++◌, append_assoc}
 use lib.ListN.{length, get_or, set, take, drop, replicate, length-replicate}
 use lib.Seq.{take_all, drop-drop}
 use Rattle.chains.specs.Chain.{Chain, ◌⊕◌, unit, Under}
-use Rattle.format.specs.Simplex.{Simplex, simplexBoundary, columns}
+use Rattle.format.specs.Simplex.{Simplex, simplex_boundary, columns}
 use Rattle.format.specs.Matrix.{columns-under}
 use Rattle.columns.specs.Column.{flipped}
-use Rattle.columns.specs.Slot.{roomOf, chainR, chainV, slot, storeSlot, takenAt}
+use Rattle.columns.specs.Slot.{room_of, chain_r, chain_v, slot, store_slot, taken_at}
 use Rattle.columns.specs.SlotLaws.{length-slot}
-use Rattle.columns.specs.PairLaws.{flipped-V, flipped-V-keeps, halfR-zeros, halfV-zeros}
+use Rattle.columns.specs.PairLaws.{flipped-v, flipped-v-keeps, half_r-zeros, half_v-zeros}
 use Rattle.slots.specs.Slots.{SlotsIn, PutsIn}
 use Rattle.slots.specs.Laws.{no-columns, puts-at-once}
 use Rattle.solver.specs.Columns.{AddsBoundary, HighestSide, HoldsColumn, WritesColumn, PutsNext, Loads}
@@ -29,14 +29,14 @@ column-written {rows} {s} {own} {col} {zeros} {built} {made} cleared added long 
     column : (h rank : ℕ) → length col ≡ 2 * h → length rows ≤ 8 * h → rank < 8 * h → own ≡ 8 * h + rank → HoldsColumn h rows s rank made
     column h rank whole small below e = record {
       boundary =
-          ap (chainR h) made-is
-          ∙ flipped-V-keeps h built built-whole rank below
+          ap (chain_r h) made-is
+          ∙ flipped-v-keeps h built built-whole rank below
           ∙ added.adds h zeros-whole small
-          ∙ ap (λ c. c ⊕ simplexBoundary rows s) (ap (chainR h) cleared ∙ halfR-zeros h (length col));
+          ∙ ap (λ c. c ⊕ simplex_boundary rows s) (ap (chain_r h) cleared ∙ half_r-zeros h (length col));
       alone =
-          ap (chainV h) made-is
-          ∙ flipped-V h built built-whole rank below
-          ∙ ap (λ c. c ⊕ unit rank) (added.keeps h zeros-whole small ∙ ap (chainV h) cleared ∙ halfV-zeros h (length col));
+          ap (chain_v h) made-is
+          ∙ flipped-v h built built-whole rank below
+          ∙ ap (λ c. c ⊕ unit rank) (added.keeps h zeros-whole small ∙ ap (chain_v h) cleared ∙ half_v-zeros h (length col));
     }
       where
         zeros-whole : length zeros ≡ 2 * h
@@ -50,14 +50,14 @@ column-written {rows} {s} {own} {col} {zeros} {built} {made} cleared added long 
 
 -- A SLOT AS A PART of the work memory: k bytes from the first of the slot on.
 module _ (h : ℕ) (work : List ℕ) (r k : ℕ) (size : k ≡ 2 * h) where
-  pub length_part : r < 8 * h → roomOf h ≤ length work → length (take k (drop (r * (2 * h)) work)) ≡ 2 * h
+  pub length_part : r < 8 * h → room_of h ≤ length work → length (take k (drop (r * (2 * h)) work)) ≡ 2 * h
   unfolding slot
   length_part low room = ap (λ (n : ℕ). length (take n (drop (r * (2 * h)) work))) size ∙ length-slot h work r low room
 
   -- what is written over the part is stored in the slot
   pub part-stored : (col : List ℕ) → length col ≡ 2 * h
-      → take (r * (2 * h)) work ++ (col ++ drop k (drop (r * (2 * h)) work)) ≡ storeSlot h work r col
-  unfolding storeSlot
+      → take (r * (2 * h)) work ++ (col ++ drop k (drop (r * (2 * h)) work)) ≡ store_slot h work r col
+  unfolding store_slot
   part-stored col whole =
       let rest : drop k (drop (r * (2 * h)) work) ≡ drop (r * (2 * h) + 2 * h) work =
       drop-drop k (r * (2 * h)) work ∙ ap (λ (n : ℕ). drop (r * (2 * h) + n) work) size in
@@ -67,28 +67,28 @@ module _ (h : ℕ) (work : List ℕ) (r k : ℕ) (size : k ≡ 2 * h) where
 -- THE NEXT COLUMN IS PUT IN: col is its pair.
 module _ {h rank : ℕ} (rows cols : List Simplex) {col : List ℕ} (lt : rank < length cols) (small : length rows ≤ 8 * h)
     (column : HoldsColumn h rows (get_or cols rank []) rank col) where
-  puts-next : {work after : List ℕ} {taken takenAfter : List Bool} → PutsIn h (length rows) work taken col after takenAfter
-      → PutsNext h rows cols rank work taken after takenAfter
+  puts-next : {work after : List ℕ} {taken taken_after : List Bool} → PutsIn h (length rows) work taken col after taken_after
+      → PutsNext h rows cols rank work taken after taken_after
   puts-next put = record {
     next = λ slots.
         put.next (columns rows cols) (length cols) rank lt (columns-under rows cols rank) slots column.boundary column.alone;
   }
 
   module _ {top : ℕ} (high : HighestSide rows (get_or cols rank []) top) where
-    rows_under : Under (suc top) (chainR h col)
+    rows_under : Under (suc top) (chain_r h col)
     rows_under j ge = ap (λ (c : Chain). c j) column.boundary ∙ high.top.above j ge
 
     -- by a reduction that begins at its highest row
-    pub next-inserted : {work after : List ℕ} {taken takenAfter : List Bool}
-        → ((m : ℕ) → top + 1 ≤ m → m ≤ 8 * h → Under (top + 1) (chainR h col) → PutsIn h m work taken col after takenAfter)
-        → PutsNext h rows cols rank work taken after takenAfter
+    pub next-inserted : {work after : List ℕ} {taken taken_after : List Bool}
+        → ((m : ℕ) → top + 1 ≤ m → m ≤ 8 * h → Under (top + 1) (chain_r h col) → PutsIn h m work taken col after taken_after)
+        → PutsNext h rows cols rank work taken after taken_after
     next-inserted puts =
         puts-next
-        (puts (length rows) (omega (arith, high.below)) small (subst (λ (n : ℕ). Under n (chainR h col)) (sym (add-one top)) rows_under))
+        (puts (length rows) (omega (arith, high.below)) small (subst (λ (n : ℕ). Under n (chain_r h col)) (sym (add-one top)) rows_under))
 
     -- straight into the slot of its highest row, which was not taken
-    pub next-written : {work after : List ℕ} {taken : List Bool} → roomOf h ≤ length work → length col ≡ 2 * h → top < length taken
-        → takenAt taken top ≡ false → after ≡ storeSlot h work top col → PutsNext h rows cols rank work taken after (set taken top true)
+    pub next-written : {work after : List ℕ} {taken : List Bool} → room_of h ≤ length work → length col ≡ 2 * h → top < length taken
+        → taken_at taken top ≡ false → after ≡ store_slot h work top col → PutsNext h rows cols rank work taken after (set taken top true)
     next-written {work} {after} {taken} room whole listed vacant stored =
         puts-next
         (subst (λ (l : List ℕ). PutsIn h (length rows) work taken col l (set taken top true)) (sym stored)
@@ -118,11 +118,11 @@ module _ {h : ℕ} {rows cols : List Simplex} where
 
   module _ {i : ℕ} {work₀ : List ℕ} {taken₀ : List Bool} {work cur : List ℕ} {taken : List Bool}
       (a : Loading h rows cols i work₀ taken₀ work cur taken) where
-    pub loading-on : {after left : List ℕ} {takenAfter : List Bool} → i < length cols
-        → PutsNext h rows cols i work taken after takenAfter → length after ≡ length work → length left ≡ length cur
-        → length takenAfter ≡ length taken → Loading h rows cols (i + 1) work₀ taken₀ after left takenAfter
-    loading-on {after} {left} {takenAfter} lt puts kept same as_wide =
-        subst (λ k. Loading h rows cols k work₀ taken₀ after left takenAfter) (sym (add-one i)) (
+    pub loading-on : {after left : List ℕ} {taken_after : List Bool} → i < length cols
+        → PutsNext h rows cols i work taken after taken_after → length after ≡ length work → length left ≡ length cur
+        → length taken_after ≡ length taken → Loading h rows cols (i + 1) work₀ taken₀ after left taken_after
+    loading-on {after} {left} {taken_after} lt puts kept same as_wide =
+        subst (λ k. Loading h rows cols k work₀ taken₀ after left taken_after) (sym (add-one i)) (
         record {
           slots = puts.next a.slots;
           within = lt;
@@ -141,8 +141,8 @@ module _ {h : ℕ} {rows cols : List Simplex} where
         }
 
 -- the bits of a pair of columns are fewer than the bytes of the slots
-pub halves-fit : (h n : ℕ) → 0 < h → roomOf h ≤ n → 8 * h + 8 * h ≤ n
-unfolding roomOf
+pub halves-fit : (h n : ℕ) → 0 < h → room_of h ≤ n → 8 * h + 8 * h ≤ n
+unfolding room_of
 halves-fit h n some room =
     let square : 8 * h * 2 ≤ 8 * h * (2 * h) = mul-le-mul_left (8 * h) (omega arith) in
     let all : 8 * h * (2 * h) ≤ n = room in

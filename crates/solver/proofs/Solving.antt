@@ -8,7 +8,7 @@ use lib.ListN.{length}
 use Rattle.chains.specs.Chain.{Under}
 use Rattle.format.specs.Simplex.{Simplex, columns}
 use Rattle.format.specs.Matrix.{columns-under}
-use Rattle.columns.specs.Slot.{chainR, chainV}
+use Rattle.columns.specs.Slot.{chain_r, chain_v}
 use Rattle.slots.specs.Slots.{FillsIn, ClassesIn}
 use Rattle.slots.specs.declared.Filled.{Filled}
 use Rattle.lists.specs.declared.Marks.{Marks}
@@ -29,14 +29,14 @@ module _ (h : ℕ) (rows cols : List Simplex) (marks : Marks) {m : ℕ} {work : 
 
   module _ (p : Prepared h rows cols marks m work taken cur) {left : List ℕ} where
     -- what the slots answer, they answer of the marked chain
-    pub fill-told : {answer : Filled} → FillsIn h m work taken cur answer left → FillTold rows cols marks answer (chainV h left)
-    fill-told {answer} f = record {
+    pub fill_told : {answer : Filled} → FillsIn h m work taken cur answer left → FillTold rows cols marks answer (chain_v h left)
+    fill_told {answer} f = record {
       says =
           (subst (λ k. FillsIn h k work taken cur answer left) p.loads.size f).answers (columns rows cols) (length cols)
           (asked rows marks) p.loads.all (asked-under rows marks) p.chain p.no-columns;
     }
 
-    pub class-told : ClassesIn h m work taken cur left → ClassTold rows cols marks (chainR h left)
-    class-told f =
+    pub class_told : ClassesIn h m work taken cur left → ClassTold rows cols marks (chain_r h left)
+    class_told f =
         (subst (λ k. ClassesIn h k work taken cur left) p.loads.size f).smallest (columns rows cols) (length cols)
         (asked rows marks) p.loads.all (λ i lt. columns-under rows cols i) (asked-under rows marks) p.chain

@@ -7,29 +7,29 @@ use Rattle.chains.specs.Chain.{Chain, empty, boundary, SmallestInClass}
 use Rattle.chains.specs.Boundary.{boundary-under}
 use Rattle.format.specs.Simplex.{Simplex, columns}
 use Rattle.format.specs.Matrix.{columns-under}
-use Rattle.columns.specs.Slot.{chainR, chainV}
+use Rattle.columns.specs.Slot.{chain_r, chain_v}
 use Rattle.slots.specs.Slots.{Answers}
 use Rattle.slots.specs.declared.Filled.{Filled}
 use Rattle.lists.specs.declared.Marks.{Marks}
-use Rattle.solver.specs.Columns.{markedChain, Loads}
+use Rattle.solver.specs.Columns.{marked_chain, Loads}
 
 -- the marked chain of a list
 abbrev pub asked : List Simplex → Marks → Chain
-asked rows marks = markedChain (length rows) marks
+asked rows marks = marked_chain (length rows) marks
 
 -- its boundary
-abbrev pub rimOf : List Simplex → List Simplex → Marks → Chain
-rimOf lower rows marks = boundary (columns lower rows) (length rows) (asked rows marks)
+abbrev pub rim_of : List Simplex → List Simplex → Marks → Chain
+rim_of lower rows marks = boundary (columns lower rows) (length rows) (asked rows marks)
 
 -- whether the rim of the marked chain is empty
 pub record RimTold (lower rows : List Simplex) (marks : Marks) (answer : Bool) : Type 0 where
-  pub is-closed : answer ≡ true → rimOf lower rows marks ≡ empty
-  pub is_open : answer ≡ false → rimOf lower rows marks ≡ empty → ⊥
+  pub is_closed : answer ≡ true → rim_of lower rows marks ≡ empty
+  pub is_open : answer ≡ false → rim_of lower rows marks ≡ empty → ⊥
 
 -- over the empty list every rim is empty: no facet is listed there
 pub no-rim : (rows : List Simplex) (marks : Marks) → RimTold [] rows marks true
 no-rim rows marks = record {
-  is-closed = λ e. fun_ext λ j.
+  is_closed = λ e. fun_ext λ j.
       boundary-under (columns [] rows) (length rows) 0 (asked rows marks) (λ c lt. columns-under [] rows c) j (omega arith);
   is_open = λ e. absurd (true≢false e);
 }
@@ -38,8 +38,8 @@ no-rim rows marks = record {
 pub record Prepared (h : ℕ) (rows cols : List Simplex) (marks : Marks) (m : ℕ) (work : List ℕ) (taken : List Bool)
     (cur : List ℕ) : Type 0 where
   pub loads : Loads h rows cols m work taken
-  pub chain : chainR h cur ≡ asked rows marks
-  pub no-columns : chainV h cur ≡ empty
+  pub chain : chain_r h cur ≡ asked rows marks
+  pub no-columns : chain_v h cur ≡ empty
 
 -- What each answer says of the chain c that comes with it: c is "the smallest d-chain with boundary A", or "no d-chain has
 -- boundary A".

@@ -5,8 +5,8 @@
 // at the end. Which slots hold a column stands in `taken`, all false at first: a slot that is not taken is
 // not read, whatever its bytes are, so the work memory is not touched before the first column.
 ghost use Rattle.std.specs.Prelude.{◌≡◌, true, false, List, ◌*◌, ◌≤◌, ◌<◌, max, length, replicate};
-ghost use Rattle.columns.specs.Slot.{roomOf, chainR, chainV};
-ghost use Rattle.format.specs.Simplex.{Simplex, risingFrom};
+ghost use Rattle.columns.specs.Slot.{room_of, chain_r, chain_v};
+ghost use Rattle.format.specs.Simplex.{Simplex, rising_from};
 ghost use Rattle.lookup.specs.Sides.{Sides};
 ghost use Rattle.solver.specs.Columns.{MatrixIn, SidesWithin, AddsBoundary, HighestSide, WritesColumn, PutsNext, Loads, Marked};
 ghost use Rattle.solver.specs.Solved.{RimTold, FillTold, ClassTold};
@@ -48,7 +48,7 @@ fn higher(a: usize, b: usize) -> usize
 // The highest of the sides of a simplex of `size` vertices. No two facets of a simplex are the same, so no
 // other facet takes that row out of the boundary again: it is the highest row that the boundary holds.
 fn highest_side(sides: u64, size: usize) -> usize
-    ensures { (rows : List Simplex) (s : Simplex) → length s ≡ size → 0 < size → size ≤ 4 → risingFrom 0 s ≡ true → Sides rows s size sides → HighestSide rows s result }
+    ensures { (rows : List Simplex) (s : Simplex) → length s ≡ size → 0 < size → size ≤ 4 → rising_from 0 s ≡ true → Sides rows s size sides → HighestSide rows s result }
 {
     let top = (sides % 65536) as usize;
     if size <= 1 {
@@ -94,7 +94,7 @@ fn put_column(
     requires matrix_in { MatrixIn h size m sides.now n }
     requires rank_lt_n { rank < n }
     requires m_in_bounds { m ≤ length taken.old }
-    requires h_in_bounds { roomOf h ≤ length work.old }
+    requires h_in_bounds { room_of h ≤ length work.old }
     requires cur_len { length cur.old ≡ 2 * h }
     requires le_h { 8 ≤ h }
     ensures { (k : MatrixIn h size m sides.now n) → PutsNext h k.rows k.high rank work.old taken.old work.new taken.new }
@@ -128,7 +128,7 @@ pub fn load(
 )
     requires matrix_in { MatrixIn h size m sides.now n }
     requires m_bound { m ≤ 512 }
-    requires h_in_bounds { roomOf h ≤ length work.old }
+    requires h_in_bounds { room_of h ≤ length work.old }
     requires cur_len { length cur.old ≡ 2 * h }
     requires taken_value { taken.old ≡ replicate 512 false }
     requires le_h { 8 ≤ h }
@@ -203,10 +203,10 @@ pub fn fill(
 ) -> Filled
     requires matrix_in { MatrixIn h size m sides.now n }
     requires m_bound { m ≤ 512 }
-    requires h_in_bounds { roomOf h ≤ length work.old }
+    requires h_in_bounds { room_of h ≤ length work.old }
     requires cur_len { length cur.old ≡ 2 * h }
     requires le_h { 8 ≤ h }
-    ensures { (k : MatrixIn h size m sides.now n) → FillTold k.rows k.high marks result (chainV h cur.new) }
+    ensures { (k : MatrixIn h size m sides.now n) → FillTold k.rows k.high marks result (chain_v h cur.new) }
 {
     let mut taken = NO_SLOTS;
     load(work, cur, &mut taken, m, sides, n, size, h);
@@ -227,10 +227,10 @@ pub fn class(
 )
     requires matrix_in { MatrixIn h size m sides.now n }
     requires m_bound { m ≤ 512 }
-    requires h_in_bounds { roomOf h ≤ length work.old }
+    requires h_in_bounds { room_of h ≤ length work.old }
     requires cur_len { length cur.old ≡ 2 * h }
     requires le_h { 8 ≤ h }
-    ensures { (k : MatrixIn h size m sides.now n) → ClassTold k.rows k.high marks (chainR h cur.new) }
+    ensures { (k : MatrixIn h size m sides.now n) → ClassTold k.rows k.high marks (chain_r h cur.new) }
 {
     let mut taken = NO_SLOTS;
     load(work, cur, &mut taken, m, sides, n, size, h);

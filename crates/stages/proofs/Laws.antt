@@ -9,94 +9,94 @@ use lib.ListN.{length, get_or, take, drop, take-append-drop, length-drop}
 use lib.Seq.{drop-drop, drop-append-le, take-append-le}
 use lib.Dec.{eqb}
 use borrow.Author.Tests.{eq-eqb, ne_eqb, le-leb, lt-leb}
-use Rattle.format.specs.Numbers.{small, cut, wrongKind, shape, headerBytes}
+use Rattle.format.specs.Numbers.{small, cut, wrong_kind, shape, header_bytes}
 use Rattle.format.specs.Simplex.{Simplex}
-use Rattle.format.specs.Reading.{Reading, ◌andThen◌, accepted, refused, Listing, ended, broken, whole, header_at, payloadAt, listFits, readItems, items_of, readList}
+use Rattle.format.specs.Reading.{Reading, ◌and_then◌, accepted, refused, Listing, ended, broken, whole, header_at, payload_at, list_fits, read_items, items_of, read_list}
 use Rattle.format.specs.Items.{items-none}
-use Rattle.format.specs.Opened.{openedFrom, opened, record-opened, opened_inside, payload-long}
+use Rattle.format.specs.Opened.{opened_from, opened, record-opened, opened_inside, payload-long}
 use Rattle.format.specs.Sound.{AllSound}
 use Rattle.lists.specs.declared.Verdict.{Verdict}
 use Rattle.lists.specs.declared.Verdict.TheVariants.{Fine, Refused}
 use Rattle.lists.specs.Verdicts.{reading_of, reading-then}
 use Rattle.lookup.specs.Indexed.{Proper, Blank, Indexed}
 use Rattle.lookup.specs.IndexLaws.{proper-none, indexed-none}
-use Rattle.lookup.specs.Numbered.{simplicesIn}
+use Rattle.lookup.specs.Numbered.{simplices_in}
 use Rattle.lookup.specs.NumberedLaws.{none_in}
 use Rattle.lookup.specs.Sides.{Sided, SidesTold}
-use Rattle.reading_lists.specs.Items.{lackOf, facesJudged, Shaped, ItemsTaken}
+use Rattle.reading_lists.specs.Items.{lack_of, faces_judged, Shaped, ItemsTaken}
 use Rattle.reading_lists.specs.declared.ItemsRead.{ItemsRead}
 use Rattle.reading_lists.proofs.Facing.{Paid, edge-owes-none, others-owe, faces-listed, first-lacks}
-use Rattle.stages.specs.Meaning.{size_of, end_at, listRead, ListTaken, FacesFound}
+use Rattle.stages.specs.Meaning.{size_of, end_at, list_read, ListTaken, FacesFound}
 use Rattle.stages.specs.declared.ListRead.{ListRead}
 
 module _ (may : ℕ → Bool) (b : List ℕ) (at : ℕ) where
-  pub opened-ended : header_at b at ≡ ended → opened may b at ≡ refused wrongKind at
-  unfolding openedFrom
+  pub opened-ended : header_at b at ≡ ended → opened may b at ≡ refused wrong_kind at
+  unfolding opened_from
   opened-ended e = rw e
 
   pub opened-broken : header_at b at ≡ broken → opened may b at ≡ refused cut at
-  unfolding openedFrom
+  unfolding opened_from
   opened-broken e = rw e
 
   pub opened-may : (kind size : ℕ) → header_at b at ≡ whole kind size → may kind ≡ true → opened may b at ≡ accepted size
-  unfolding openedFrom
+  unfolding opened_from
   opened-may kind size e m = rw (e, m)
 
-  pub opened-may-not : (kind size : ℕ) → header_at b at ≡ whole kind size → may kind ≡ false → opened may b at ≡ refused wrongKind at
-  unfolding openedFrom
+  pub opened-may-not : (kind size : ℕ) → header_at b at ≡ whole kind size → may kind ≡ false → opened may b at ≡ refused wrong_kind at
+  unfolding opened_from
   opened-may-not kind size e m = rw (e, m)
 
 -- a record ends within the file, and where none stands at a place, its end is a header further on
-pub end-within : (b : List ℕ) (at kind beyond : ℕ) → at ≤ length b + beyond → end_at b at kind ≤ length b + (beyond + headerBytes)
+pub end-within : (b : List ℕ) (at kind beyond : ℕ) → at ≤ length b + beyond → end_at b at kind ≤ length b + (beyond + header_bytes)
 end-within b at kind beyond le = go (opened (eqb kind) b at) refl
   where
-    go : (o : Reading ℕ) → opened (eqb kind) b at ≡ o → at + headerBytes + size_of o ≤ length b + (beyond + headerBytes)
+    go : (o : Reading ℕ) → opened (eqb kind) b at ≡ o → at + header_bytes + size_of o ≤ length b + (beyond + header_bytes)
     go (accepted size) e = omega (arith, opened_inside (eqb kind) b at size e)
     go (refused number place) e = omega (arith, le)
 
 -- THE LIST STAGE.
 module _ (b : List ℕ) (at kind v : ℕ) (faces : List Simplex) where
-  pub list-refused : (number : ℕ) → opened (eqb kind) b at ≡ refused number at → readList small b at kind v faces ≡ refused number at
-  unfolding readList
-  list-refused number e = rw (record-opened (λ _ p. listFits small kind p) b at kind, e)
+  pub list-refused : (number : ℕ) → opened (eqb kind) b at ≡ refused number at → read_list small b at kind v faces ≡ refused number at
+  unfolding read_list
+  list-refused number e = rw (record-opened (λ _ p. list_fits small kind p) b at kind, e)
 
   module _ (size : ℕ) (whole : opened (eqb kind) b at ≡ accepted size) where
-    long : length (payloadAt b at size) ≡ size
+    long : length (payload_at b at size) ≡ size
     long = payload-long b at size (opened_inside (eqb kind) b at size whole)
 
-    pub list-uneven : (size % kind ≡ 0 → ⊥) → readList small b at kind v faces ≡ refused shape at
-    unfolding readList
-    list-uneven n = rw (record-opened (λ _ p. listFits small kind p) b at kind, whole, long, ne_eqb (size % kind) 0 n)
+    pub list-uneven : (size % kind ≡ 0 → ⊥) → read_list small b at kind v faces ≡ refused shape at
+    unfolding read_list
+    list-uneven n = rw (record-opened (λ _ p. list_fits small kind p) b at kind, whole, long, ne_eqb (size % kind) 0 n)
 
-    pub list-long : kind * 512 < size → readList small b at kind v faces ≡ refused shape at
-    unfolding readList
-    list-long h = rw (record-opened (λ _ p. listFits small kind p) b at kind, whole, long, lt-leb size (kind * 512) h, and-false)
+    pub list-long : kind * 512 < size → read_list small b at kind v faces ≡ refused shape at
+    unfolding read_list
+    list-long h = rw (record-opened (λ _ p. list_fits small kind p) b at kind, whole, long, lt-leb size (kind * 512) h, and-false)
 
-    pub list_read : size % kind ≡ 0 → size ≤ kind * 512 → (items : Reading (List Simplex))
-        → readItems kind v faces (at + headerBytes) [] (items_of kind (payloadAt b at size)) ≡ items
-        → readList small b at kind v faces ≡ (items and_then λ l. accepted (record { list = l; next = at + headerBytes + size }))
-    unfolding readList
-    list_read e h items r =
-        rw (record-opened (λ _ p. listFits small kind p) b at kind, whole, long, eq-eqb (size % kind) 0 e, le-leb size (kind * 512) h, r)
+    pub list_read_lem : size % kind ≡ 0 → size ≤ kind * 512 → (items : Reading (List Simplex))
+        → read_items kind v faces (at + header_bytes) [] (items_of kind (payload_at b at size)) ≡ items
+        → read_list small b at kind v faces ≡ (items and_then λ l. accepted (record { list = l; next = at + header_bytes + size }))
+    unfolding read_list
+    list_read_lem e h items r =
+        rw (record-opened (λ _ p. list_fits small kind p) b at kind, whole, long, eq-eqb (size % kind) 0 e, le-leb size (kind * 512) h, r)
 
     -- a record without items is an empty list
     pub list-nothing : size % kind ≡ 0 → size ≡ 0 → 0 < kind
-        → readList small b at kind v faces ≡ accepted (record { list = []; next = at + headerBytes + size })
-    unfolding readItems
+        → read_list small b at kind v faces ≡ accepted (record { list = []; next = at + header_bytes + size })
+    unfolding read_items
     list-nothing even none some =
-        list_read even (omega arith) (accepted [])
-        (rw (items-none kind (payloadAt b at size) (omega (arith, long, none))) refl)
+        list_read_lem even (omega arith) (accepted [])
+        (rw (items-none kind (payload_at b at size) (omega (arith, long, none))) refl)
 
 -- WHAT IS TAKEN. A record that is refused as a whole leaves the lent arrays as they were.
 pub taken_refused : {b : List ℕ} {at kind v : ℕ} {keys first next : List ℕ} {n : ℕ} (r : ListRead)
     → (r.verdict ≡ Refused n at) × (r.count ≡ 0) → Blank first next
-    → ((faces : List Simplex) → readList small b at kind v faces ≡ refused n at) → ListTaken b at kind v keys first next r
+    → ((faces : List Simplex) → read_list small b at kind v faces ≡ refused n at) → ListTaken b at kind v keys first next r
 taken_refused {b} {at} {kind} {v} {keys} {first} {next} r e blank is = record {
   reads = λ faces sound.
       let behind : Reading (List Simplex) → Reading Listing = λ x. x and_then λ l. accepted (record { list = l; next = r.next }) in
       is faces
-      ∙ sym (ap (λ (l : List Simplex). behind (facesJudged kind v faces (at + headerBytes) l (reading_of r.verdict l))) none
-      ∙ ap behind (faces-listed kind v faces (at + headerBytes) [] (reading_of r.verdict []) (λ i lt. absurd (omega arith)))
+      ∙ sym (ap (λ (l : List Simplex). behind (faces_judged kind v faces (at + header_bytes) l (reading_of r.verdict l))) none
+      ∙ ap behind (faces-listed kind v faces (at + header_bytes) [] (reading_of r.verdict []) (λ i lt. absurd (omega arith)))
       ∙ ap (λ (x : Verdict). behind (reading_of x [])) e.0);
   own = λ i lt. absurd (omega (arith, e.1));
   proper = subst (Proper kind) (sym none) (proper-none kind);
@@ -106,8 +106,8 @@ taken_refused {b} {at} {kind} {v} {keys} {first} {next} r e blank is = record {
   ends = λ fine. let z : ◌≡◌ {A = ℕ} 0 1 = cc in absurd (omega arith);
 }
   where
-    none : simplicesIn kind keys r.count ≡ []
-    none = ap (simplicesIn kind keys) e.1 ∙ none_in kind keys
+    none : simplices_in kind keys r.count ≡ []
+    none = ap (simplices_in kind keys) e.1 ∙ none_in kind keys
 
 -- a part of a front is that part of the whole
 part_of : (p q : List ℕ) (i width : ℕ) → i + width ≤ length p → take width (drop i p) ≡ take width (drop i (p ++ q))
@@ -116,52 +116,52 @@ part_of p q i width inside =
 
 -- The items of a payload are items of the file, behind the record's header.
 module _ (b : List ℕ) (at kind v size : ℕ) {p keys first next : List ℕ} {r : ItemsRead} (whole : opened (eqb kind) b at ≡ accepted size)
-    (is : p ≡ payloadAt b at size) (shape : Shaped p (at + headerBytes) kind) (taken : ItemsTaken p (at + headerBytes) v kind keys first next r) where
-  inside : at + headerBytes + size ≤ length b
+    (is : p ≡ payload_at b at size) (shape : Shaped p (at + header_bytes) kind) (taken : ItemsTaken p (at + header_bytes) v kind keys first next r) where
+  inside : at + header_bytes + size ≤ length b
   inside = opened_inside (eqb kind) b at size whole
 
   payload-size : length p ≡ size
   payload-size = ap length is ∙ payload-long b at size inside
 
-  in-payload : {i : ℕ} → i < r.count → kind * i + kind ≤ length (payloadAt b at size)
+  in-payload : {i : ℕ} → i < r.count → kind * i + kind ≤ length (payload_at b at size)
   in-payload {i} lt = omega (arith, mul-le-mul_left kind lt, mul-suc kind i, taken.within, payload-size, payload-long b at size inside)
 
   pub list-taken : size % kind ≡ 0 → size ≤ kind * 512
-      → ListTaken b at kind v keys first next (record { verdict = r.verdict; count = r.count; next = at + headerBytes + size })
+      → ListTaken b at kind v keys first next (record { verdict = r.verdict; count = r.count; next = at + header_bytes + size })
   list-taken even fits = record {
     reads = λ faces sound.
-        list_read b at kind v faces size whole even fits _
-        (ap (λ (q : List ℕ). readItems kind v faces (at + headerBytes) [] (items_of kind q)) (sym is) ∙ taken.reads faces sound);
+        list_read_lem b at kind v faces size whole even fits _
+        (ap (λ (q : List ℕ). read_items kind v faces (at + header_bytes) [] (items_of kind q)) (sym is) ∙ taken.reads faces sound);
     own = λ i lt.
         taken.own i lt ∙ ap (λ (q : List ℕ). take kind (drop (kind * i) q)) is
-        ∙ part_of (payloadAt b at size) (drop size (drop (at + headerBytes) b)) (kind * i) kind (in-payload lt)
-        ∙ ap (λ (l : List ℕ). take kind (drop (kind * i) l)) (take-append-drop size (drop (at + headerBytes) b))
-        ∙ ap (take kind) (drop-drop (kind * i) (at + headerBytes) b);
+        ∙ part_of (payload_at b at size) (drop size (drop (at + header_bytes) b)) (kind * i) kind (in-payload lt)
+        ∙ ap (λ (l : List ℕ). take kind (drop (kind * i) l)) (take-append-drop size (drop (at + header_bytes) b))
+        ∙ ap (take kind) (drop-drop (kind * i) (at + header_bytes) b);
     proper = taken.proper;
     indexed = taken.indexed;
     few = le_of_mul-le-mul_left {k = kind} (omega (arith, taken.within, shape)) (omega (arith, shape));
     within = λ some. omega (arith, taken.within, inside, payload-size);
-    ends = λ fine. ap (λ (s : ℕ). at + headerBytes + s) (sym (ap size_of whole));
+    ends = λ fine. ap (λ (s : ℕ). at + header_bytes + s) (sym (ap size_of whole));
   }
 
 -- RULE 8 over what was taken.
 module _ {b : List ℕ} {at kind v : ℕ} {keys first next : List ℕ} {taken : ListRead} (told : ListTaken b at kind v keys first next taken)
     (faces : List Simplex) (sound : AllSound v faces) where
   abbrev list : List Simplex
-  list = simplicesIn kind keys taken.count
+  list = simplices_in kind keys taken.count
 
   abbrev behind : Reading (List Simplex) → Reading Listing
   behind x = x and_then λ l. accepted (record { list = l; next = taken.next })
 
   -- where it refuses none, what was told when they were taken stands
-  kept : ((i : ℕ) → i < taken.count → Paid kind v faces (get_or list i [])) → listRead kind keys taken ≡ readList small b at kind v faces
+  kept : ((i : ℕ) → i < taken.count → Paid kind v faces (get_or list i [])) → list_read kind keys taken ≡ read_list small b at kind v faces
   kept paid =
       sym (told.reads faces sound
-      ∙ ap behind (faces-listed kind v faces (at + headerBytes) list (reading_of taken.verdict list) (λ i lt. paid i (omega (arith, told.indexed.keyed.count))))
+      ∙ ap behind (faces-listed kind v faces (at + header_bytes) list (reading_of taken.verdict list) (λ i lt. paid i (omega (arith, told.indexed.keyed.count))))
       ∙ reading-then taken.verdict list (λ l. record { list = l; next = taken.next }))
 
   -- it asks nothing of edges
-  pub edges-read : kind ≤ 2 → listRead kind keys taken ≡ readList small b at kind v faces
+  pub edges-read : kind ≤ 2 → list_read kind keys taken ≡ read_list small b at kind v faces
   edges-read edges = kept (λ i lt. edge-owes-none kind _ faces edges)
 
   module _ (wide : 2 < kind) {sides : List ℕ} {found : ℕ} (looked : SidesTold faces list sides taken.count found) where
@@ -178,14 +178,14 @@ module _ {b : List ℕ} {at kind v : ℕ} {keys first next : List ℕ} {taken : 
       fine = λ _. refl;
     }
 
-    pub lacking-refused : {refusal : ℕ} → found < taken.count → refusal ≡ lackOf v (take kind (drop (at + headerBytes + kind * found) b))
+    pub lacking-refused : {refusal : ℕ} → found < taken.count → refusal ≡ lack_of v (take kind (drop (at + header_bytes + kind * found) b))
         → FacesFound b at kind v faces keys sides taken
-        (record { verdict = Refused refusal (at + headerBytes + kind * found); count = taken.count; next = at })
+        (record { verdict = Refused refusal (at + header_bytes + kind * found); count = taken.count; next = at })
     lacking-refused lt lack = record {
       reads =
-          ap (λ (k : ℕ). refused k (at + headerBytes + kind * found)) (lack ∙ ap (lackOf v) (sym (told.own found lt)))
+          ap (λ (k : ℕ). refused k (at + header_bytes + kind * found)) (lack ∙ ap (lack_of v) (sym (told.own found lt)))
           ∙ sym (told.reads faces sound
-          ∙ ap behind (first-lacks kind v faces (at + headerBytes) list (reading_of taken.verdict list) found (omega (arith, told.indexed.keyed.count)) paid
+          ∙ ap behind (first-lacks kind v faces (at + header_bytes) list (reading_of taken.verdict list) found (omega (arith, told.indexed.keyed.count)) paid
           (others-owe kind _ faces false wide (looked.lacking lt))));
       count = refl;
       sided = λ fine. let z : ◌≡◌ {A = ℕ} 0 1 = cc in absurd (omega arith);

@@ -1,16 +1,16 @@
 -- The answers of the record stages as the definitions' readings.
 use Rattle.std.specs.Prelude.{ℕ, ◌+◌, ◌*◌, ◌%◌, ◌≤◌, ◌<◌, ◌≡◌, List, [], length, get_or, take, drop, eqb}
-use Rattle.format.specs.Numbers.{small, headerBytes}
+use Rattle.format.specs.Numbers.{small, header_bytes}
 use Rattle.format.specs.Simplex.{Simplex}
-use Rattle.format.specs.Reading.{Reading, accepted, refused, ◌andThen◌, Listing, readList}
+use Rattle.format.specs.Reading.{Reading, accepted, refused, ◌and_then◌, Listing, read_list}
 use Rattle.format.specs.Opened.{opened}
 use Rattle.format.specs.Sound.{AllSound}
 use Rattle.lists.specs.Verdicts.{reading_of}
 use Rattle.lists.specs.declared.Verdict.TheVariants.{Fine}
 use Rattle.lookup.specs.Indexed.{Proper, Indexed}
-use Rattle.lookup.specs.Numbered.{simplicesIn}
+use Rattle.lookup.specs.Numbered.{simplices_in}
 use Rattle.lookup.specs.Sides.{Sided}
-use Rattle.reading_lists.specs.Items.{facesJudged}
+use Rattle.reading_lists.specs.Items.{faces_judged}
 use Rattle.stages.specs.declared.Opened.{Opened}
 use Rattle.stages.specs.declared.Opened.TheVariants.{Size, Refused}
 use Rattle.stages.specs.declared.ListRead.{ListRead}
@@ -30,7 +30,7 @@ size_at b at kind = size_of (opened (eqb kind) b at)
 
 -- the offset behind it
 abbrev pub end_at : List ℕ → (at kind : ℕ) → ℕ
-end_at b at kind = at + headerBytes + size_at b at kind
+end_at b at kind = at + header_bytes + size_at b at kind
 
 -- so many places are room for the list whose record stands there, if it is one that is not too long
 abbrev pub RoomAt : List ℕ → (at kind places : ℕ) → Type 0
@@ -45,36 +45,36 @@ pub record SizedList (b : List ℕ) (at kind size : ℕ) : Type 0 where
 -- what opening a list record comes to: one of a list's shape, or the refusal
 abbrev pub ListOpened : List ℕ → (at kind : ℕ) → Opened → Type 0
 ListOpened b at kind (Size size) = SizedList b at kind size
-ListOpened b at kind (Refused number) = (v : ℕ) (faces : List Simplex) → readList small b at kind v faces ≡ refused number at
+ListOpened b at kind (Refused number) = (v : ℕ) (faces : List Simplex) → read_list small b at kind v faces ≡ refused number at
 
 -- the list that was read, whose numbers are the first keys, or the refusal
-abbrev pub listRead : (kind : ℕ) → List ℕ → ListRead → Reading Listing
-listRead kind keys r = reading_of r.verdict (record { list = simplicesIn kind keys r.count; next = r.next })
+abbrev pub list_read : (kind : ℕ) → List ℕ → ListRead → Reading Listing
+list_read kind keys r = reading_of r.verdict (record { list = simplices_in kind keys r.count; next = r.next })
 
 -- What taking the items of a list record leaves: an index of them. The definition's reading, over any sound faces, is then what
 -- rule 8 says of the items taken, which stand one behind the other in the file, and where it refuses none of them, what was told
 -- when they were taken.
 pub record ListTaken (b : List ℕ) (at kind v : ℕ) (keys first next : List ℕ) (r : ListRead) : Type 0 where
   pub reads : (faces : List Simplex) → AllSound v faces
-      → readList small b at kind v faces
-      ≡ (facesJudged kind v faces (at + headerBytes) (simplicesIn kind keys r.count) (reading_of r.verdict (simplicesIn kind keys r.count))
+      → read_list small b at kind v faces
+      ≡ (faces_judged kind v faces (at + header_bytes) (simplices_in kind keys r.count) (reading_of r.verdict (simplices_in kind keys r.count))
       and_then λ l. accepted (record { list = l; next = r.next }))
-  pub own : (i : ℕ) → i < r.count → get_or (simplicesIn kind keys r.count) i [] ≡ take kind (drop (at + headerBytes + kind * i) b)
-  pub proper : Proper kind (simplicesIn kind keys r.count)
-  pub indexed : Indexed (simplicesIn kind keys r.count) keys first next r.count
+  pub own : (i : ℕ) → i < r.count → get_or (simplices_in kind keys r.count) i [] ≡ take kind (drop (at + header_bytes + kind * i) b)
+  pub proper : Proper kind (simplices_in kind keys r.count)
+  pub indexed : Indexed (simplices_in kind keys r.count) keys first next r.count
   pub few : r.count ≤ 512
-  pub within : 0 < r.count → at + headerBytes + kind * r.count ≤ length b
+  pub within : 0 < r.count → at + header_bytes + kind * r.count ≤ length b
   pub ends : r.verdict ≡ Fine → r.next ≡ end_at b at kind
 
 -- What reading a list record without items leaves: the definition's reading, whatever numbers would be its list's.
 pub record NothingRead (b : List ℕ) (at kind : ℕ) (r : ListRead) : Type 0 where
-  pub reads : (v : ℕ) (faces : List Simplex) (keys : List ℕ) → listRead kind keys r ≡ readList small b at kind v faces
+  pub reads : (v : ℕ) (faces : List Simplex) (keys : List ℕ) → list_read kind keys r ≡ read_list small b at kind v faces
   pub none : r.count ≡ 0
 
 -- What looking up the facets of what was taken leaves: the definition's reading over the list of the faces, and, where nothing is
 -- refused, the sides.
 pub record FacesFound (b : List ℕ) (at kind v : ℕ) (faces : List Simplex) (keys sides : List ℕ) (taken r : ListRead) : Type 0 where
-  pub reads : listRead kind keys r ≡ readList small b at kind v faces
+  pub reads : list_read kind keys r ≡ read_list small b at kind v faces
   pub count : r.count ≡ taken.count
-  pub sided : r.verdict ≡ Fine → Sided faces (simplicesIn kind keys r.count) sides r.count
+  pub sided : r.verdict ≡ Fine → Sided faces (simplices_in kind keys r.count) sides r.count
   pub fine : r.verdict ≡ Fine → r ≡ taken

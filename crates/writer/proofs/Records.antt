@@ -8,10 +8,10 @@ use native.Mathlib.Nat.{add-sub_cancel_left, zero-add, add-mul-mod_self_left, mo
 use native.Mathlib.Numerals.{add-one}
 use lib.ListN.{length, get_or, take, drop, length-append, length-take, length-drop}
 use lib.Seq.{take-append-le, take-take, drop_at, take-suc}
-use Rattle.format.specs.Answer.{u16Bytes, u32Bytes, recordOf}
-use Rattle.format.specs.Writing.{placesFrom}
+use Rattle.format.specs.Answer.{u16_bytes, u32_bytes, record_of}
+use Rattle.format.specs.Writing.{places_from}
 use Rattle.writer.specs.Splice.{splice, splice-more, length-splice}
-use Rattle.writer.specs.Meaning.{headerOfSize, Put}
+use Rattle.writer.specs.Meaning.{header_of_size, Put}
 use Rattle.writer.proofs.Runs.{places-append}
 
 -- what is put in front of bytes that were put behind its place
@@ -29,11 +29,11 @@ splice-before l at start front back e h =
     ap₂ (λ a n. a ++ drop n l) (append_assoc (take at l) front back) total
 
 -- A RECORD: its payload first, then the header that says how long it is.
-pub record-put : (l : List ℕ) (at kind : ℕ) (payload x y : List ℕ) (next : ℕ) → at + length (recordOf kind payload) ≤ length l → Put l (at + 6) payload x next → y ≡ splice x at (headerOfSize kind (next - (at + 6))) → Put l at (recordOf kind payload) y next
+pub record-put : (l : List ℕ) (at kind : ℕ) (payload x y : List ℕ) (next : ℕ) → at + length (record_of kind payload) ≤ length l → Put l (at + 6) payload x next → y ≡ splice x at (header_of_size kind (next - (at + 6))) → Put l at (record_of kind payload) y next
 record-put l at kind payload x y next room put is =
     let size : next - (at + 6) ≡ length payload = ap (λ n. n - (at + 6)) put.next ∙ add-sub_cancel_left (at + 6) (length payload) in
     record {
-      lent = is ∙ ap₂ (λ w n. splice w at (headerOfSize kind n)) put.lent size ∙ splice-before l at (at + 6) (headerOfSize kind (length payload)) payload refl (omega arith);
+      lent = is ∙ ap₂ (λ w n. splice w at (header_of_size kind n)) put.lent size ∙ splice-before l at (at + 6) (header_of_size kind (length payload)) payload refl (omega arith);
       next = omega (arith, put.next);
     }
 
@@ -49,32 +49,32 @@ pub put-long : {l x : List ℕ} {at next : ℕ} {bytes : List ℕ} → at + leng
 put-long {l} {x} {at} {next} {bytes} room p = ap length p.lent ∙ length-splice l at bytes room
 
 -- THE HEAD: two bytes of one number, and the next number behind them.
-pub head-put : (l x y z : List ℕ) (q d v : ℕ) → 10 ≤ length l → q < 256 → d < 256 → x ≡ splice l 0 (headerOfSize 1 4) → y ≡ splice x 6 (u16Bytes (q + 256 * d)) → z ≡ splice y 8 (u16Bytes v) → Put l 0 (recordOf 1 (q ∷ d ∷ u16Bytes v)) z 10
+pub head-put : (l x y z : List ℕ) (q d v : ℕ) → 10 ≤ length l → q < 256 → d < 256 → x ≡ splice l 0 (header_of_size 1 4) → y ≡ splice x 6 (u16_bytes (q + 256 * d)) → z ≡ splice y 8 (u16_bytes v) → Put l 0 (record_of 1 (q ∷ d ∷ u16_bytes v)) z 10
 head-put l x y z q d v room hq hd e f g =
     let low : (q + 256 * d) % 256 ≡ q = add-mul-mod_self_left q 256 d ∙ mod-eq_of_lt hq in
     let whole : (q + 256 * d) / 256 ≡ d = omega arith in
     let high : (q + 256 * d) / 256 % 256 ≡ d = ap (λ n. n % 256) whole ∙ mod-eq_of_lt hd in
-    let two : u16Bytes (q + 256 * d) ≡ q ∷ d ∷ [] = ap₂ (λ a b. a ∷ b ∷ []) low high in
-    let first : y ≡ splice l 0 (headerOfSize 1 4 ++ (q ∷ d ∷ [])) =
-    f ∙ ap₂ (λ w b. splice w 6 b) e two ∙ splice-more l 0 6 (headerOfSize 1 4) (q ∷ d ∷ []) refl (omega arith) in
+    let two : u16_bytes (q + 256 * d) ≡ q ∷ d ∷ [] = ap₂ (λ a b. a ∷ b ∷ []) low high in
+    let first : y ≡ splice l 0 (header_of_size 1 4 ++ (q ∷ d ∷ [])) =
+    f ∙ ap₂ (λ w b. splice w 6 b) e two ∙ splice-more l 0 6 (header_of_size 1 4) (q ∷ d ∷ []) refl (omega arith) in
     record {
-      lent = g ∙ ap (λ w. splice w 8 (u16Bytes v)) first ∙ splice-more l 0 8 (headerOfSize 1 4 ++ (q ∷ d ∷ [])) (u16Bytes v) refl (omega arith);
+      lent = g ∙ ap (λ w. splice w 8 (u16_bytes v)) first ∙ splice-more l 0 8 (header_of_size 1 4 ++ (q ∷ d ∷ [])) (u16_bytes v) refl (omega arith);
       next = refl;
     }
 
 -- COUNTING the marks that are on.
-pub counts-on : (on : List Bool) (i : ℕ) (b : Bool) → i < length on → get_or on i false ≡ b → length (placesFrom 0 (take (i + 1) on)) ≡ length (placesFrom 0 (take i on)) + length (placesFrom (length (take i on)) (b ∷ []))
+pub counts-on : (on : List Bool) (i : ℕ) (b : Bool) → i < length on → get_or on i false ≡ b → length (places_from 0 (take (i + 1) on)) ≡ length (places_from 0 (take i on)) + length (places_from (length (take i on)) (b ∷ []))
 counts-on on i b h e =
-    ap (λ n. length (placesFrom 0 (take n on))) (add-one i) ∙ ap (λ x. length (placesFrom 0 x)) (take-suc on i false h) ∙
-    ap length (places-append 0 (take i on) (get_or on i false ∷ [])) ∙ length-append (placesFrom 0 (take i on)) _ ∙
-    ap₂ (λ x n. length (placesFrom 0 (take i on)) + length (placesFrom n (x ∷ []))) e (zero-add (length (take i on)))
+    ap (λ n. length (places_from 0 (take n on))) (add-one i) ∙ ap (λ x. length (places_from 0 x)) (take-suc on i false h) ∙
+    ap length (places-append 0 (take i on) (get_or on i false ∷ [])) ∙ length-append (places_from 0 (take i on)) _ ∙
+    ap₂ (λ x n. length (places_from 0 (take i on)) + length (places_from n (x ∷ []))) e (zero-add (length (take i on)))
 
-pub counts-one : (on : List Bool) (i : ℕ) → i < length on → get_or on i false ≡ true → length (placesFrom 0 (take (i + 1) on)) ≡ length (placesFrom 0 (take i on)) + 1
-unfolding placesFrom
+pub counts-one : (on : List Bool) (i : ℕ) → i < length on → get_or on i false ≡ true → length (places_from 0 (take (i + 1) on)) ≡ length (places_from 0 (take i on)) + 1
+unfolding places_from
 counts-one on i h e = counts-on on i true h e
 
-pub counts-none : (on : List Bool) (i : ℕ) → i < length on → get_or on i false ≡ false → length (placesFrom 0 (take (i + 1) on)) ≡ length (placesFrom 0 (take i on))
-unfolding placesFrom
+pub counts-none : (on : List Bool) (i : ℕ) → i < length on → get_or on i false ≡ false → length (places_from 0 (take (i + 1) on)) ≡ length (places_from 0 (take i on))
+unfolding places_from
 counts-none on i h e = counts-on on i false h e ∙ (omega arith)
 
 -- THE WHOLE JOB is five records; whatever is put so far leaves room for the next.

@@ -1,10 +1,10 @@
 // The job writer: puts the normal form of a job into lent bytes, piece behind piece.
 ghost use Rattle.std.specs.Prelude.{◌≡◌, ◌+◌, ◌≤◌, length, take};
-ghost use Rattle.format.specs.Answer.{u16Bytes, recordOf};
-ghost use Rattle.format.specs.Writing.{placesFrom};
-ghost use Rattle.lists.specs.Meaning.{verticesOf, simplicesOf};
+ghost use Rattle.format.specs.Answer.{u16_bytes, record_of};
+ghost use Rattle.format.specs.Writing.{places_from};
+ghost use Rattle.lists.specs.Meaning.{vertices_of, simplices_of};
 ghost use Rattle.writer.specs.Splice.{splice};
-ghost use Rattle.writer.specs.Meaning.{simplexBytes, listBytes, headerOfSize, markPiece, markBytes, Put, headRecord, jobBytes};
+ghost use Rattle.writer.specs.Meaning.{simplex_bytes, list_bytes, header_of_size, mark_piece, mark_bytes, Put, head_record, job_bytes};
 
 use chosen::ChainRead;
 use complexes::Job;
@@ -15,7 +15,7 @@ use records::Header;
 // A number in two bytes, little-endian.
 pub fn put_u16(out: &mut [u8], at: usize, n: usize)
     requires { at + 2 ≤ length out.old }
-    ensures { out.new ≡ splice out.old at (u16Bytes n) }
+    ensures { out.new ≡ splice out.old at (u16_bytes n) }
 {
     out[at] = (n % 256) as u8;
     out[at + 1] = (n / 256 % 256) as u8;
@@ -24,7 +24,7 @@ pub fn put_u16(out: &mut [u8], at: usize, n: usize)
 // A record's header: four bytes of length, two of kind.
 pub fn put_header(out: &mut [u8], at: usize, kind: usize, size: usize)
     requires { at + 6 ≤ length out.old }
-    ensures { out.new ≡ splice out.old at (headerOfSize kind size) }
+    ensures { out.new ≡ splice out.old at (header_of_size kind size) }
 {
     put_u16(out, at, size % 65536);
     put_u16(out, at + 2, size / 65536);
@@ -33,8 +33,8 @@ pub fn put_header(out: &mut [u8], at: usize, kind: usize, size: usize)
 
 // A simplex: one byte a vertex.
 pub fn put_simplex(out: &mut [u8], at: usize, s: Simplex)
-    requires { at + length (verticesOf s) ≤ length out.old }
-    ensures { out.new ≡ splice out.old at (simplexBytes (verticesOf s)) }
+    requires { at + length (vertices_of s) ≤ length out.old }
+    ensures { out.new ≡ splice out.old at (simplex_bytes (vertices_of s)) }
 {
     let size = s.size();
     let mut i = 0;
@@ -46,8 +46,8 @@ pub fn put_simplex(out: &mut [u8], at: usize, s: Simplex)
 
 // The simplices of a list, one behind the other.
 pub fn put_list(out: &mut [u8], at: usize, list: SimplexList) -> usize
-    requires { at + length (listBytes (simplicesOf list)) ≤ length out.old }
-    ensures { Put out.old at (listBytes (simplicesOf list)) out.new result }
+    requires { at + length (list_bytes (simplices_of list)) ≤ length out.old }
+    ensures { Put out.old at (list_bytes (simplices_of list)) out.new result }
 {
     let n = complexes::count_of(list);
     let mut next = at;
@@ -63,8 +63,8 @@ pub fn put_list(out: &mut [u8], at: usize, list: SimplexList) -> usize
 
 // The position i in two bytes, where its mark is on; the place behind it.
 fn put_mark(out: &mut [u8], at: usize, i: usize, on: bool) -> usize
-    requires { at + length (markPiece i on) ≤ length out.old }
-    ensures { Put out.old at (markPiece i on) out.new result }
+    requires { at + length (mark_piece i on) ≤ length out.old }
+    ensures { Put out.old at (mark_piece i on) out.new result }
 {
     if on {
         put_u16(out, at, i);
@@ -76,8 +76,8 @@ fn put_mark(out: &mut [u8], at: usize, i: usize, on: bool) -> usize
 
 // The positions of the first n marks that are on, two bytes each; the place behind them.
 pub fn put_marks(out: &mut [u8], at: usize, marks: Marks, n: usize) -> usize
-    requires { (n ≤ 512) × (at + length (markBytes n marks.on) ≤ length out.old) }
-    ensures { Put out.old at (markBytes n marks.on) out.new result }
+    requires { (n ≤ 512) × (at + length (mark_bytes n marks.on) ≤ length out.old) }
+    ensures { Put out.old at (mark_bytes n marks.on) out.new result }
 {
     let mut next = at;
     let mut i = 0;
@@ -90,8 +90,8 @@ pub fn put_marks(out: &mut [u8], at: usize, marks: Marks, n: usize) -> usize
 
 // A list's record: the simplices behind a header that says how long they are; the place behind it.
 pub fn put_list_record(out: &mut [u8], at: usize, kind: u16, list: SimplexList) -> usize
-    requires { at + length (recordOf kind (listBytes (simplicesOf list))) ≤ length out.old }
-    ensures { Put out.old at (recordOf kind (listBytes (simplicesOf list))) out.new result }
+    requires { at + length (record_of kind (list_bytes (simplices_of list))) ≤ length out.old }
+    ensures { Put out.old at (record_of kind (list_bytes (simplices_of list))) out.new result }
 {
     let start = at + Header::BYTES;
     let next = put_list(out, start, list);
@@ -101,8 +101,8 @@ pub fn put_list_record(out: &mut [u8], at: usize, kind: u16, list: SimplexList) 
 
 // The chain record: the positions of the first n marks that are on; the place behind it.
 pub fn put_chain_record(out: &mut [u8], at: usize, marks: Marks, n: usize) -> usize
-    requires { (n ≤ 512) × (at + length (recordOf 5 (markBytes n marks.on)) ≤ length out.old) }
-    ensures { Put out.old at (recordOf 5 (markBytes n marks.on)) out.new result }
+    requires { (n ≤ 512) × (at + length (record_of 5 (mark_bytes n marks.on)) ≤ length out.old) }
+    ensures { Put out.old at (record_of 5 (mark_bytes n marks.on)) out.new result }
 {
     let start = at + Header::BYTES;
     let next = put_marks(out, start, marks, n);
@@ -113,7 +113,7 @@ pub fn put_chain_record(out: &mut [u8], at: usize, marks: Marks, n: usize) -> us
 // The head's record at the front; the place behind it.
 pub fn put_head(out: &mut [u8], head: Head) -> usize
     requires { 10 ≤ length out.old }
-    ensures { Put out.old 0 (headRecord head) out.new result }
+    ensures { Put out.old 0 (head_record head) out.new result }
 {
     put_header(out, 0, Head::KIND as usize, Head::BYTES);
     put_u16(
@@ -128,7 +128,7 @@ pub fn put_head(out: &mut [u8], head: Head) -> usize
 // How many of the first n marks are on.
 pub fn count_marks(marks: Marks, n: usize) -> usize
     requires { n ≤ 512 }
-    ensures { result ≡ length (placesFrom 0 (take n marks.on)) }
+    ensures { result ≡ length (places_from 0 (take n marks.on)) }
 {
     let mut count = 0;
     let mut i = 0;
@@ -143,8 +143,8 @@ pub fn count_marks(marks: Marks, n: usize) -> usize
 
 // The whole normal form of a job of which n simplices may be chosen; its length.
 pub fn put_job(out: &mut [u8], job: Job, n: usize) -> usize
-    requires { (n ≤ 512) × (length (jobBytes job n) ≤ length out.old) }
-    ensures { Put out.old 0 (jobBytes job n) out.new result }
+    requires { (n ≤ 512) × (length (job_bytes job n) ≤ length out.old) }
+    ensures { Put out.old 0 (job_bytes job n) out.new result }
 {
     let head = job.head;
     let edges = job.complex.edges;

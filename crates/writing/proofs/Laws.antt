@@ -8,85 +8,85 @@ use native.Mathlib.Omega.{arith}
 use native.Mathlib.Nat.{zero-add}
 use lib.ListN.{length, take, drop, length-take}
 use Rattle.format.specs.Numbers.{small, room}
-use Rattle.format.specs.Reading.{accepted, refused, reading, questionByte, questionOf, chainDimension}
+use Rattle.format.specs.Reading.{accepted, refused, reading, question_byte, question_of, chain_dimension}
 use Rattle.format.specs.Reading as reader
-use Rattle.format.specs.Answer.{rows, rowDimension}
-use Rattle.format.specs.Writing.{placesFrom, normalForm}
+use Rattle.format.specs.Answer.{rows, row_dimension}
+use Rattle.format.specs.Writing.{places_from, normal_form}
 use Rattle.format.specs.Sound.{small-consistent}
 use Rattle.format.specs.Normal.{places-few}
-use Rattle.format.specs.RoundTrip.{length-normalForm, normal-fits, chosen-fits}
-use Rattle.format.specs.Promise.{twoNumbers, WrittenJob, too_short, written, Written, WritePromise}
-use Rattle.lists.specs.Meaning.{simplicesOf}
+use Rattle.format.specs.RoundTrip.{length-normal_form, normal-fits, chosen-fits}
+use Rattle.format.specs.Promise.{two_numbers, WrittenJob, too_short, written, Written, WritePromise}
+use Rattle.lists.specs.Meaning.{simplices_of}
 use Rattle.lists.specs.Verdicts.{reading_of}
 use Rattle.lists.specs.declared.Verdict.TheVariants.{Fine, Refused}
 use Rattle.complexes.specs.Meaning.{job_of, list_of}
 use Rattle.complexes.specs.declared.Job.{Job}
 use Rattle.jobs.specs.Meaning.{Outcome, Readable}
-use Rattle.jobs.specs.Known.{read-accepted, read-readable}
+use Rattle.jobs.specs.Known.{read-accepted, read_readable}
 use Rattle.jobs.specs.declared.JobRead.{JobRead}
-use Rattle.writer.specs.Meaning.{Put, jobBytes}
+use Rattle.writer.specs.Meaning.{Put, job_bytes}
 use Rattle.writer.specs.Splice.{splice}
 use Rattle.writer.specs.Normal.{normal-bytes}
-use Rattle.writing.specs.Meaning.{chosenFrom}
+use Rattle.writing.specs.Meaning.{chosen_from}
 
 -- a question that was accepted is written as the byte that it was read from
-asked-byte : (q : ℕ) → (q ≡ 1) ⊎ (q ≡ 2) → questionByte (questionOf q) ≡ q
-asked-byte q (inl e) = subst (λ x. questionByte (questionOf x) ≡ x) (sym e) refl
-asked-byte q (inr e) = subst (λ x. questionByte (questionOf x) ≡ x) (sym e) refl
+asked-byte : (q : ℕ) → (q ≡ 1) ⊎ (q ≡ 2) → question_byte (question_of q) ≡ q
+asked-byte q (inl e) = subst (λ x. question_byte (question_of x) ≡ x) (sym e) refl
+asked-byte q (inr e) = subst (λ x. question_byte (question_of x) ≡ x) (sym e) refl
 
 -- as many as the dimension of A has simplices may be chosen
-pub all-chosen : (job : Job) (n dim : ℕ) → n ≡ length (list_of job.complex dim) → dim ≡ chainDimension (questionOf job.head.question) job.head.d → n ≡ length (chosenFrom job)
+pub all-chosen : (job : Job) (n dim : ℕ) → n ≡ length (list_of job.complex dim) → dim ≡ chain_dimension (question_of job.head.question) job.head.d → n ≡ length (chosen_from job)
 all-chosen job n dim counted e = counted ∙ ap (λ k. length (list_of job.complex k)) e
 
 -- A JOB THAT WAS READ.
-module _ (job : Job) (k : Readable job) (n : ℕ) (all : n ≡ length (chosenFrom job)) where
+module _ (job : Job) (k : Readable job) (n : ℕ) (all : n ≡ length (chosen_from job)) where
   abbrev meant : reader.Job
   meant = job_of job k.set
 
-  pub bytes-normal : jobBytes job n ≡ normalForm meant
+  pub bytes-normal : job_bytes job n ≡ normal_form meant
   bytes-normal =
-      ap (jobBytes job) all ∙
+      ap (job_bytes job) all ∙
       normal-bytes job k.set k.sound (asked-byte job.head.question k.head.asks) k.v k.marks
 
   -- no more may be chosen than a chain's record holds
   pub chosen-few : n ≤ 512
-  chosen-few = omega (arith, all, (chosen-fits small small-consistent meant.complex k.sound.complex (rowDimension meant)).0)
+  chosen-few = omega (arith, all, (chosen-fits small small-consistent meant.complex k.sound.complex (row_dimension meant)).0)
 
   -- the length, from the counts of the lists and of the marks that are on
-  pub length-counted : (e t s a : ℕ) → e ≡ length (simplicesOf job.complex.edges) → t ≡ length (simplicesOf job.complex.triangles) →
-      s ≡ length (simplicesOf job.complex.tetrahedra) → a ≡ length (placesFrom 0 (take n job.marks.on)) →
-      (34 + 2 * e + 3 * t + 4 * s + 2 * a ≡ length (jobBytes job n)) × (34 + 2 * e + 3 * t + 4 * s + 2 * a ≤ 6690)
+  pub length-counted : (e t s a : ℕ) → e ≡ length (simplices_of job.complex.edges) → t ≡ length (simplices_of job.complex.triangles) →
+      s ≡ length (simplices_of job.complex.tetrahedra) → a ≡ length (places_from 0 (take n job.marks.on)) →
+      (34 + 2 * e + 3 * t + 4 * s + 2 * a ≡ length (job_bytes job n)) × (34 + 2 * e + 3 * t + 4 * s + 2 * a ≤ 6690)
   length-counted e t s a edges triangles tetrahedra marked =
-      let on : a ≡ length (placesFrom 0 (map k.set (rows meant))) =
-      marked ∙ ap (λ m. length (placesFrom 0 (take m job.marks.on))) all ∙ ap (λ l. length (placesFrom 0 l)) k.marks.marks in
-      let size = length-normalForm small small-consistent meant k.sound in
+      let on : a ≡ length (places_from 0 (map k.set (rows meant))) =
+      marked ∙ ap (λ m. length (places_from 0 (take m job.marks.on))) all ∙ ap (λ l. length (places_from 0 l)) k.marks.marks in
+      let size = length-normal_form small small-consistent meant k.sound in
       (omega (arith, ap length bytes-normal, size), omega (arith, size, normal-fits small small-consistent meant k.sound))
 
   -- so many marks at most are on
-  pub marks-few : (a : ℕ) → a ≡ length (placesFrom 0 (take n job.marks.on)) → a ≤ 512
+  pub marks-few : (a : ℕ) → a ≡ length (places_from 0 (take n job.marks.on)) → a ≤ 512
   marks-few a e = omega (arith, e, places-few (take n job.marks.on) 0, length-take n job.marks.on, chosen-few)
 
   -- THE TWO OUTCOMES.
-  pub job-too-short : (out : List ℕ) (result : ℕ) → length out < length (jobBytes job n) → result ≡ twoNumbers room 0 → WrittenJob meant out result out
+  pub job-too-short : (out : List ℕ) (result : ℕ) → length out < length (job_bytes job n) → result ≡ two_numbers room 0 → WrittenJob meant out result out
   job-too-short out result less e = too_short (omega (arith, ap length bytes-normal)) e refl
 
-  pub job-written : (out out' : List ℕ) (result next : ℕ) → length (jobBytes job n) ≤ length out → result ≡ length (jobBytes job n) →
-      Put out 0 (jobBytes job n) out' next → WrittenJob meant out result out'
+  pub job-written : (out out' : List ℕ) (result next : ℕ) → length (job_bytes job n) ≤ length out → result ≡ length (job_bytes job n) →
+      Put out 0 (job_bytes job n) out' next → WrittenJob meant out result out'
   job-written out out' result next fits e put =
       written (omega (arith, ap length bytes-normal)) (omega (arith, ap length bytes-normal))
-      (put.lent ∙ ap (splice out 0) bytes-normal ∙ ap (λ i. normalForm meant ++ drop i out) (zero-add (length (normalForm meant))))
+      (put.lent ∙ ap (splice out 0) bytes-normal ∙ ap (λ i. normal_form meant ++ drop i out) (zero-add (length (normal_form meant))))
 
 -- A REFUSED JOB.
 module _ (b : List ℕ) (r : JobRead) (o : Outcome (reading small b) r) where
   pub read-refused : (n p : ℕ) → r.verdict ≡ Refused n p → reading small b ≡ refused n p
   read-refused n p v = o.is ∙ ap (λ x. reading_of x (job_of r.job o.set)) v
 
-  pub write-refused : (out : List ℕ) (n p result : ℕ) → r.verdict ≡ Refused n p → result ≡ twoNumbers n p → WritePromise small b out result out
+  pub write-refused : (out : List ℕ) (n p result : ℕ) → r.verdict ≡ Refused n p → result ≡ two_numbers n p → WritePromise small b out result out
   write-refused out n p result v e = subst (λ x. Written x out result out) (sym (read-refused n p v)) (e, refl)
 
   pub write-accepted : (out out' : List ℕ) (result : ℕ) → r.verdict ≡ Fine →
       ((k : Readable r.job) → WrittenJob (job_of r.job k.set) out result out') → WritePromise small b out result out'
-  unfolding read-readable
+  unfolding read_readable
   write-accepted out out' result v done =
       let known : accepted (job_of r.job o.set) ≡ reading small b = sym (read-accepted b r o v) in
-      subst (λ x. Written x out result out') known (done (read-readable b r o v))
+      subst (λ x. Written x out result out') known (done (read_readable b r o v))

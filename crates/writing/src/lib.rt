@@ -1,11 +1,11 @@
 // The write call: reads a job and puts its normal form into lent bytes, or says why not.
 ghost use Rattle.std.specs.Prelude.{◌≡◌, ◌≤◌, ◌<◌, length};
 ghost use Rattle.format.specs.Numbers.{small};
-ghost use Rattle.format.specs.Promise.{twoNumbers, WrittenJob, WritePromise};
+ghost use Rattle.format.specs.Promise.{two_numbers, WrittenJob, WritePromise};
 ghost use Rattle.complexes.specs.Meaning.{job_of};
 ghost use Rattle.jobs.specs.Meaning.{Readable};
-ghost use Rattle.writer.specs.Meaning.{jobBytes};
-ghost use Rattle.writing.specs.Meaning.{chosenFrom};
+ghost use Rattle.writer.specs.Meaning.{job_bytes};
+ghost use Rattle.writing.specs.Meaning.{chosen_from};
 
 use complexes::Job;
 use lists::Verdict;
@@ -13,7 +13,7 @@ use lists::Verdict;
 // Two numbers in one: the upper 32 bits and the lower.
 fn two_numbers(upper: u64, lower: u64) -> u64
     requires { (upper < 65536) × (lower < 4294967296) }
-    ensures { result ≡ twoNumbers upper lower }
+    ensures { result ≡ two_numbers upper lower }
 {
     upper * 4294967296 + lower
 }
@@ -22,8 +22,8 @@ fn two_numbers(upper: u64, lower: u64) -> u64
 // vertices of the lists, and two bytes for each mark that is on.
 fn normal_length(job: Job, n: usize) -> usize
     requires readable { Readable job }
-    requires n_value { n ≡ length (chosenFrom job) }
-    ensures { (result ≡ length (jobBytes job n)) × (result ≤ 6690) }
+    requires n_value { n ≡ length (chosen_from job) }
+    ensures { (result ≡ length (job_bytes job n)) × (result ≤ 6690) }
 {
     let edges = job.complex.edges;
     let triangles = job.complex.triangles;

@@ -5,11 +5,11 @@ use native.Mathlib.Omega.{arith}
 use native.Mathlib.Nat.{le_trans}
 use mathlib.Core.Path.{◌≡◌, refl, sym, ◌∙◌, subst}
 use lib.ListN.{length, length-replicate, length-take, length-drop}
-use Rattle.columns.specs.Slot.{halfR}
+use Rattle.columns.specs.Slot.{half_r}
 use Rattle.format.specs.Simplex.{Complex, simplices}
-use Rattle.format.specs.Reading.{questionOf}
-use Rattle.lookup.specs.Numbered.{simplicesIn}
-use Rattle.lent_lists.specs.Held.{complexIn}
+use Rattle.format.specs.Reading.{question_of}
+use Rattle.lookup.specs.Numbered.{simplices_in}
+use Rattle.lent_lists.specs.Held.{complex_in}
 use Rattle.lent_lists.specs.HeldLaws.{held-counted, few-simplices}
 use Rattle.solver.specs.Room.{room_small}
 use Rattle.answering.proofs.Lists.{numbers-list, numbers_fit, matrix-in, members-room, vertices-are}
@@ -21,11 +21,11 @@ use Rattle.answering.proofs.answer_class.Tie as tie
 -- the complex that the arrays hold
 abbrev lists : tie.Start → Complex
 lists start =
-    complexIn start.args.read.head.v start.args.read.counts start.args.e-keys.now start.args.t-keys.now start.args.s-keys.now
+    complex_in start.args.read.head.v start.args.read.counts start.args.e-keys.now start.args.t-keys.now start.args.s-keys.now
 
 -- A has dimension 2 at most
 small-dim : (start : tie.Start) → start.args.dim ≤ 2
-small-dim start = subst (λ n. n ≤ 2) (sym start.requires.1.0) (dimension-few (questionOf start.args.read.head.question) start.args.read.head.d start.requires.0.head.dimension)
+small-dim start = subst (λ n. n ≤ 2) (sym start.requires.1.0) (dimension-few (question_of start.args.read.head.question) start.args.read.head.d start.requires.0.head.dimension)
 
 -- what is known once the sides are chosen
 module _ (c : tie.After-numbers-of) where
@@ -43,14 +43,14 @@ module _ (c : tie.After-numbers-of) where
 
 -- the vertices are listed by number
 vertices-listed : (c : tie.After-number-vertices) → let chosen = c.before.before.before.before.before.before.before.before.before in
-    simplicesIn 1 c.number-vertices.new.0 chosen.before.before.of.result ≡ simplices (lists (start chosen)) (start chosen).args.dim
+    simplices_in 1 c.number-vertices.new.0 chosen.before.before.of.result ≡ simplices (lists (start chosen)) (start chosen).args.dim
 vertices-listed c =
     let chosen = c.before.before.before.before.before.before.before.before.before in
     c.number-vertices.ensures ∙ vertices-are (lists (start chosen)) _ _ c.before.before.if1.true (m-is chosen)
 
 -- simplices of other dimensions by their numbers
 rows-listed : (c : tie.After-numbers-of2) → let chosen = c.before.before.before.before.before.before.before.before in
-    simplicesIn ((start chosen).args.dim + 1) c.numbers-of2.result.now chosen.before.before.of.result
+    simplices_in ((start chosen).args.dim + 1) c.numbers-of2.result.now chosen.before.before.of.result
     ≡ simplices (lists (start chosen)) (start chosen).args.dim
 rows-listed c =
     let chosen = c.before.before.before.before.before.before.before.before in
@@ -127,7 +127,7 @@ same-length-2 : tie.Need-same-length-2
 same-length-2 c = search rules
 
 returns : tie.Need-returns
-unfolding halfR matrix-in
+unfolding half_r matrix-in
 returns c = λ k.
     let put = c.before.before in
     let named = put.before.before.before.before.before.before in
@@ -174,7 +174,7 @@ same-length-4 : tie.Need-same-length-4
 same-length-4 c = search rules
 
 returns-2 : tie.Need-returns-2
-unfolding halfR matrix-in
+unfolding half_r matrix-in
 returns-2 c = λ k.
     let put = c.before.before in
     let rows = put.before.before.before.before in

@@ -7,11 +7,11 @@ use mathlib.Core.Path.{◌≡◌, refl, sym, subst}
 use lib.ListN.{length, length-take, length-drop}
 use borrow.Author.Tests.{not-true, not-false}
 use Rattle.chains.specs.Chain.{empty}
-use Rattle.columns.specs.Slot.{halfV}
+use Rattle.columns.specs.Slot.{half_v}
 use Rattle.format.specs.Simplex.{Complex, simplices}
-use Rattle.format.specs.Reading.{questionOf}
-use Rattle.lookup.specs.Numbered.{simplicesIn}
-use Rattle.lent_lists.specs.Held.{complexIn}
+use Rattle.format.specs.Reading.{question_of}
+use Rattle.lookup.specs.Numbered.{simplices_in}
+use Rattle.lent_lists.specs.Held.{complex_in}
 use Rattle.lent_lists.specs.HeldLaws.{held-counted, few-simplices}
 use Rattle.solver.specs.Room.{room_small}
 use Rattle.solver.specs.Solved.{fill-says}
@@ -24,11 +24,11 @@ use Rattle.answering.proofs.answer_fill.Tie as tie
 -- the complex that the arrays hold
 abbrev lists : tie.Start → Complex
 lists start =
-    complexIn start.args.read.head.v start.args.read.counts start.args.e-keys.now start.args.t-keys.now start.args.s-keys.now
+    complex_in start.args.read.head.v start.args.read.counts start.args.e-keys.now start.args.t-keys.now start.args.s-keys.now
 
 -- A has dimension 2 at most
 small-dim : (start : tie.Start) → start.args.dim ≤ 2
-small-dim start = subst (λ n. n ≤ 2) (sym start.requires.1.0) (dimension-few (questionOf start.args.read.head.question) start.args.read.head.d start.requires.0.head.dimension)
+small-dim start = subst (λ n. n ≤ 2) (sym start.requires.1.0) (dimension-few (question_of start.args.read.head.question) start.args.read.head.d start.requires.0.head.dimension)
 
 -- what is known once the sides are chosen
 module _ (c : tie.After-numbers-of) where
@@ -44,15 +44,15 @@ module _ (c : tie.After-numbers-of) where
   few : c.before.before.of.result ≤ 512
   few = subst (λ n. n ≤ 512) (sym m-is) (few-simplices (lists start) start.pre.0.held.sound _)
 
-  few-columns : c.before.of2.result ≤ 512
-  few-columns = subst (λ n. n ≤ 512) (sym n-is) (few-simplices (lists start) start.pre.0.held.sound _)
+  few_columns : c.before.of2.result ≤ 512
+  few_columns = subst (λ n. n ≤ 512) (sym n-is) (few-simplices (lists start) start.pre.0.held.sound _)
 
 -- the patch is made of the columns
 module _ (c : tie.After-numbers-of2) where
   abbrev before-search : tie.After-numbers-of
   before-search = c.before.before.before.before.before.before.before.before.before
 
-  patch-list : simplicesIn ((start before-search).args.dim + 2) c.numbers-of2.result.now before-search.before.of2.result
+  patch-list : simplices_in ((start before-search).args.dim + 2) c.numbers-of2.result.now before-search.before.of2.result
       ≡ simplices (lists (start before-search)) ((start before-search).args.dim + 1)
   patch-list =
       let d = small-dim (start before-search) in
@@ -121,7 +121,7 @@ put-chain-requires c κs =
         numbers_fit (start chosen).pre.0.held _ _ cols.numbers-of2.ensures (omega arith) (omega (arith, small-dim (start chosen))) (n-is chosen),
         (
           le_trans (members-room (lists (start chosen)) (start chosen).pre.0.held.sound ((start chosen).args.dim + 1) _ (patch-list cols) _) (start chosen).pre.1.1.1.0,
-          simp (length-take, length-drop) (omega (arith, few-columns chosen, cols.before.before.before.before.before.before.fill.auto.1.0)),
+          simp (length-take, length-drop) (omega (arith, few_columns chosen, cols.before.before.before.before.before.before.fill.auto.1.0)),
         ),
       ),
     )
@@ -158,7 +158,7 @@ same-length-4 : tie.Need-same-length-4
 same-length-4 c = search rules
 
 returns-2 : tie.Need-returns-2
-unfolding halfV matrix-in
+unfolding half_v matrix-in
 returns-2 c = λ k.
     let put = c.before.before in
     let cols = put.before.before.before.before in

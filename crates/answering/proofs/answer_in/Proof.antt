@@ -6,7 +6,7 @@ use Rattle.format.specs.Numbers.{small}
 use Rattle.format.specs.Reading.{reading}
 use Rattle.lists.specs.declared.Verdict.TheVariants.{Fine}
 use Rattle.jobs.specs.Meaning.{Told}
-use Rattle.jobs.specs.Known.{unedited-refusal, unedited-told, told-refusal, told-asking}
+use Rattle.jobs.specs.Known.{unedited-refusal, unedited-told, told-refusal, told_asking}
 use Rattle.answering.proofs.Told.{file-refused, file-answered}
 use borrow.Author.Rules.{rules}
 use Rattle.answering.proofs.answer_in.Statement.{statement}
@@ -91,7 +91,7 @@ answer-job-requires : tie.Need-answer-job-requires
 answer-job-requires c κs =
     let unedited = c.before.before.before.before.before.before.before in
     let given = (start (read (passed unedited))).requires in
-    (told-asking _ _ (job-told unedited) (fine (passed unedited)), (given.1.0, given.1.1))
+    (told_asking _ _ (job-told unedited) (fine (passed unedited)), (given.1.0, given.1.1))
 
 same-length-7 : tie.Need-same-length-7
 same-length-7 c = search rules
@@ -163,7 +163,7 @@ answer-job-requires-2 c κs =
     let told = c.before.before.before.before.before.before.before in
     let edited = told.before.before.before.before.before.before.before.before.before.before.before.before in
     let given = (start (read (before-edits edited))).requires in
-    (told-asking _ _ (edited-told edited) told.enum-told2.given.1, (given.1.0, given.1.1))
+    (told_asking _ _ (edited-told edited) told.enum-told2.given.1, (given.1.0, given.1.1))
 
 same-length-20 : tie.Need-same-length-20
 same-length-20 c = search rules

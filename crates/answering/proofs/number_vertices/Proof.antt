@@ -3,8 +3,8 @@
 use Prim.Native.Nat.{◌-◌, ◌≤◌}
 use mathlib.Core.Path.{◌≡◌, subst}
 use native.Mathlib.Omega.{arith}
-use Rattle.format.specs.Simplex.{vertexList}
-use Rattle.lookup.specs.Numbered.{simplicesIn}
+use Rattle.format.specs.Simplex.{vertex_list}
+use Rattle.lookup.specs.Numbered.{simplices_in}
 use Rattle.answering.proofs.Numbering.{Numbering, numbering_start, numbering-on}
 use borrow.Author.Rules.{rules}
 use Rattle.answering.proofs.number_vertices.Statement.{statement}
@@ -45,7 +45,7 @@ returns : tie.Need-returns invariant-loop decreases-loop
 returns c =
     let head = c.before in
     let all : head.loop.i ≡ head.before.args.v = omega (arith, c.loop-test.false, head.loop.invariant.1) in
-    subst (λ n. simplicesIn 1 head.loop.keys n ≡ vertexList n) all head.loop.invariant.0.listed
+    subst (λ n. simplices_in 1 head.loop.keys n ≡ vertex_list n) all head.loop.invariant.0.listed
 
 pub number-vertices-spec : {M : Type 1} → statement M
 number-vertices-spec =

@@ -5,7 +5,7 @@ use mathlib.Core.Path.{◌≡◌, refl, sym, subst}
 use native.Mathlib.Omega.{arith}
 use lib.ListN.{length}
 use Rattle.format.specs.Simplex.{Complex, simplices}
-use Rattle.lent_lists.specs.Held.{complexIn}
+use Rattle.lent_lists.specs.Held.{complex_in}
 use Rattle.lent_lists.specs.HeldLaws.{held-counted, few-simplices}
 use Rattle.answering.proofs.Lists.{rim-none, rim-below, matrix-in}
 use borrow.Author.Rules.{rules}
@@ -15,7 +15,7 @@ use Rattle.answering.proofs.rim_closed.Tie as tie
 -- the complex that the arrays hold
 abbrev lists : tie.Start → Complex
 lists start =
-    complexIn start.args.read.head.v start.args.read.counts start.args.e-keys.now start.args.t-keys.now start.args.s-keys.now
+    complex_in start.args.read.head.v start.args.read.counts start.args.e-keys.now start.args.t-keys.now start.args.s-keys.now
 
 -- what is known once the sides are chosen
 module _ (c : tie.After-numbers-of) where

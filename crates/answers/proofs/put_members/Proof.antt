@@ -4,20 +4,20 @@ use mathlib.Core.Path.{◌≡◌, sym, ◌∙◌}
 use mathlib.Core.List.{List, []}
 use native.Mathlib.Omega.{arith}
 use lib.ListN.{length, get_or}
-use Rattle.columns.specs.Column.{chainOf}
+use Rattle.columns.specs.Column.{chain_of}
 use Rattle.format.specs.Simplex.{Simplex}
-use Rattle.lists.specs.Meaning.{verticesOf}
-use Rattle.lookup.specs.Numbered.{simplicesIn}
+use Rattle.lists.specs.Meaning.{vertices_of}
+use Rattle.lookup.specs.Numbered.{simplices_in}
 use Rattle.lookup.specs.NumberedLaws.{length-in, simplex-in}
 use Rattle.writer.proofs.Runs.{Run}
-use Rattle.answers.proofs.Members.{upToMember, members-start, member-room, members-go-on, members-end}
+use Rattle.answers.proofs.Members.{up_to_member, members-start, member-room, members-go-on, members-end}
 use borrow.Author.Rules.{rules}
 use Rattle.answers.proofs.put_members.Statement.{statement}
 use Rattle.answers.proofs.put_members.Tie as tie
 
 abbrev invariant-loop : tie.invariant-loop
 invariant-loop out₀ at keys n size col next₀ i₀ out next i =
-    Run out₀ at (upToMember (chainOf col) (simplicesIn size keys n)) n out next i
+    Run out₀ at (up_to_member (chain_of col) (simplices_in size keys n)) n out next i
 
 abbrev decreases-loop : tie.decreases-loop
 decreases-loop out₀ at keys n size col next₀ i₀ out next i = n - i
@@ -28,14 +28,14 @@ module _ (p : tie.At-loop invariant-loop decreases-loop) where
   begin = p.before.before.before.before
 
   abbrev list : List Simplex
-  list = simplicesIn begin.args.size begin.args.keys.now begin.args.n
+  list = simplices_in begin.args.size begin.args.keys.now begin.args.n
 
   full : begin.args.n ≡ length list
   full = sym (length-in _ _ _ begin.pre.1.0)
 
 -- the simplex at hand
 stands : (c : tie.After-simplex-of invariant-loop decreases-loop)
-    → get_or (list c.before.before.before) c.before.before.before.loop.i [] ≡ verticesOf c.simplex-of.result
+    → get_or (list c.before.before.before) c.before.before.before.loop.i [] ≡ vertices_of c.simplex-of.result
 stands c =
     let turn = c.before.before in
     simplex-in _ _ _ (begin turn.before).pre.1.0 _ turn.loop-test.true ∙ sym c.simplex-of.ensures

@@ -3,11 +3,11 @@ use Prim.Native.Nat.{ℕ, ◌+◌, ◌≤◌}
 use native.Mathlib.Omega.{arith}
 use mathlib.Core.Path.{◌≡◌}
 use lib.ListN.{length}
-use Rattle.format.specs.Numbers.{small, chainKind, walkKind}
-use Rattle.format.specs.Reading.{accepted, mayAsk, chainFits}
+use Rattle.format.specs.Numbers.{small, chain_kind, walk_kind}
+use Rattle.format.specs.Reading.{accepted, may_ask, chain_fits}
 use Rattle.format.specs.Opened.{record-inside}
 use Rattle.lists.specs.Verdicts.{told}
-use Rattle.chain_stage.specs.Meaning.{chainOpened, recordOfKind}
+use Rattle.chain_stage.specs.Meaning.{chain_opened, record_of_kind}
 use Rattle.chain_stage.proofs.Laws.{asked, stage-refused, stage-positions, stage-walk}
 use borrow.Author.Rules.{rules}
 use Rattle.chain_stage.proofs.read_chain.Statement.{statement}
@@ -32,30 +32,30 @@ start c = c.before.before.before.before.before
 -- a record of the kind stands there, whole
 module _ (kind : ℕ) (c : tie.After-open-chain) (size : ℕ) where
   abbrev Stands : Type 0
-  Stands = let a = (start c).args in asked a.job.now a.at a.dim ≡ accepted (recordOfKind kind a.job.now a.at size)
+  Stands = let a = (start c).args in asked a.job.now a.at a.dim ≡ accepted (record_of_kind kind a.job.now a.at size)
 
   inside : Stands → (start c).args.at + 6 + size ≤ 6690
   inside whole =
       let a = (start c).args in
-      omega (arith, (start c).requires.0, record-inside (mayAsk a.dim) (chainFits small) a.job.now a.at _ whole)
+      omega (arith, (start c).requires.0, record-inside (may_ask a.dim) (chain_fits small) a.job.now a.at _ whole)
 
-positions : (c : tie.After-known-told2) → Stands chainKind c.before.before.before c.before.opened2.given.0.0
+positions : (c : tie.After-known-told2) → Stands chain_kind c.before.before.before c.before.opened2.given.0.0
 positions c =
     let opened = c.before.before.before in
     let a = (start opened).args in
-    told (chainOpened a.job.now a.at) _ _ _ opened.open-chain.ensures c.before.opened2.given.1
+    told (chain_opened a.job.now a.at) _ _ _ opened.open-chain.ensures c.before.opened2.given.1
 
 positions-inside : (c : tie.After-known-told2) → (start c.before.before.before).args.at + 6 + c.before.opened2.given.0.0 ≤ 6690
-positions-inside c = inside chainKind c.before.before.before _ (positions c)
+positions-inside c = inside chain_kind c.before.before.before _ (positions c)
 
-walk : (c : tie.After-known-told3) → Stands walkKind c.before.before.before c.before.opened3.given.0.0
+walk : (c : tie.After-known-told3) → Stands walk_kind c.before.before.before c.before.opened3.given.0.0
 walk c =
     let opened = c.before.before.before in
     let a = (start opened).args in
-    told (chainOpened a.job.now a.at) _ _ _ opened.open-chain.ensures c.before.opened3.given.1
+    told (chain_opened a.job.now a.at) _ _ _ opened.open-chain.ensures c.before.opened3.given.1
 
 walk_inside : (c : tie.After-known-told3) → (start c.before.before.before).args.at + 6 + c.before.opened3.given.0.0 ≤ 6690
-walk_inside c = inside walkKind c.before.before.before _ (walk c)
+walk_inside c = inside walk_kind c.before.before.before _ (walk c)
 
 add_start : tie.Need-overflow-add-start
 add_start c = omega (arith, positions-inside c)
@@ -94,7 +94,7 @@ returns c = λ X own count.
     let opened = c.before.before.before.before in
     let a = (start opened).args in
     stage-refused a.job.now a.at a.dim X _ c.none.result _
-    (told (chainOpened a.job.now a.at) _ _ _ opened.open-chain.ensures c.before.before.opened.given.1)
+    (told (chain_opened a.job.now a.at) _ _ _ opened.open-chain.ensures c.before.before.opened.given.1)
 
 -- the marks have a place for each rank
 positions-marked : (c : tie.After-read-positions) → length c.read-positions.result.on ≡ 512

@@ -4,16 +4,16 @@ use mathlib.Core.Path.{◌≡◌, refl}
 use lib.ListN.{length}
 use Rattle.format.specs.Simplex.{rank}
 use Rattle.lists.specs.Meaning.{rank_of}
-use Rattle.lookup.specs.Numbered.{simplicesIn}
+use Rattle.lookup.specs.Numbered.{simplices_in}
 use Rattle.lists.specs.declared.Found.{Found}
-use Rattle.chosen.specs.Meaning.{stepAt}
+use Rattle.chosen.specs.Meaning.{step_at}
 use Rattle.chosen.proofs.Steps.{Walking, walking-starts, walking-astray, walking-goes-on, walk_refused, walk-read, rank-few, looked-up}
 use borrow.Author.Rules.{rules}
 use Rattle.chosen.proofs.read_walk.Statement.{statement}
 use Rattle.chosen.proofs.read_walk.Tie as tie
 
 abbrev invariant-loop : tie.invariant-loop
-invariant-loop p base edges keys first next on₀ i₀ on i = Walking p base (simplicesIn 2 keys edges) on i
+invariant-loop p base edges keys first next on₀ i₀ on i = Walking p base (simplices_in 2 keys edges) on i
 
 abbrev decreases-loop : tie.decreases-loop
 decreases-loop p base edges keys first next on₀ i₀ on i = length p - i
@@ -36,7 +36,7 @@ module _ (c : tie.After-find invariant-loop decreases-loop) (f : Found) (told : 
   abbrev walk : tie.At-loop invariant-loop decreases-loop
   walk = c.before.before.before
 
-  found-rank : rank (stepAt (start walk).args.p.now walk.loop.i) (simplicesIn 2 (start walk).args.keys.now (start walk).args.edges) ≡ rank_of f
+  found-rank : rank (step_at (start walk).args.p.now walk.loop.i) (simplices_in 2 (start walk).args.keys.now (start walk).args.edges) ≡ rank_of f
   found-rank = looked-up (start walk).args.p.now walk.loop.i f c.before.step-at.ensures c.find.ensures (start walk).pre.1.0 (start walk).pre.1.1 told
 
 enum-known-found : tie.Need-enum-known-found invariant-loop decreases-loop

@@ -7,7 +7,7 @@ use native.Mathlib.Nat.{add-sub_cancel_left}
 use native.Mathlib.Omega.{arith}
 use lib.ListN.{length, take, drop, length-take, length-drop}
 use lib.Seq.{take_all}
-use Rattle.columns.specs.Column.{xorBytes}
+use Rattle.columns.specs.Column.{xor_bytes}
 use Rattle.columns.specs.Slot.{slot}
 use Rattle.columns.specs.SlotLaws.{slot-fits}
 use borrow.Author.Rules.{rules}
@@ -50,7 +50,7 @@ returns c =
     let size : ℕ = 2 * start.args.h in
     let part : List ℕ = take (at + size - at) (drop at start.args.work.now) in
     c.before.before.add.ensures
-    ∙ ap (λ (l : List ℕ). xorBytes start.args.cur.now l)
+    ∙ ap (λ (l : List ℕ). xor_bytes start.args.cur.now l)
     (take_all size part (omega (arith, length-take (at + size - at) (drop at start.args.work.now)))
     ∙ ap (λ (n : ℕ). take n (drop at start.args.work.now)) (add-sub_cancel_left at size))
 

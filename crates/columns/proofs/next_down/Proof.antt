@@ -3,15 +3,15 @@
 use Prim.Native.Nat.{◌≤◌}
 use mathlib.Core.Path.{◌≡◌, sym, ap, ◌∙◌}
 use native.Mathlib.Omega.{arith}
-use Rattle.columns.specs.Column.{chainOf}
-use Rattle.columns.specs.Search.{highestBelow}
+use Rattle.columns.specs.Column.{chain_of}
+use Rattle.columns.specs.Search.{highest_below}
 use Rattle.columns.proofs.Laws.{found-bit, skip-bit}
 use borrow.Author.Rules.{rules}
 use Rattle.columns.proofs.next_down.Statement.{statement}
 use Rattle.columns.proofs.next_down.Tie as tie
 
 abbrev invariant-loop : tie.invariant-loop
-invariant-loop col from i₀ i = (i ≤ from) × (highestBelow (chainOf col) from ≡ highestBelow (chainOf col) i)
+invariant-loop col from i₀ i = (i ≤ from) × (highest_below (chain_of col) from ≡ highest_below (chain_of col) i)
 
 abbrev decreases-loop : tie.decreases-loop
 decreases-loop col from i₀ i = i
@@ -48,11 +48,11 @@ loop-again c =
     )
 
 returns-2 : tie.Need-returns-2 invariant-loop decreases-loop
-unfolding highestBelow
+unfolding highest_below
 returns-2 c =
     let head = c.before in
     let none : head.loop.i ≡ 0 = omega (arith, c.loop-test.false) in
-    sym (head.loop.invariant.1 ∙ ap (highestBelow (chainOf head.before.before.args.col.now)) none)
+    sym (head.loop.invariant.1 ∙ ap (highest_below (chain_of head.before.before.args.col.now)) none)
 
 pub next-down-spec : {M : Type 1} → statement M
 next-down-spec =

@@ -4,7 +4,7 @@
 use Prim.Native.Nat.{◌+◌, ◌-◌, ◌*◌, ◌≤◌}
 use native.Mathlib.Omega.{arith}
 use lib.ListN.{length}
-use Rattle.columns.specs.Slot.{storeSlot}
+use Rattle.columns.specs.Slot.{store_slot}
 use Rattle.columns.specs.SlotLaws.{slot-fits}
 use Rattle.columns.proofs.Laws.{Copied, copied_none, copied_more, copied_all}
 use borrow.Author.Rules.{rules}
@@ -52,7 +52,7 @@ same_length : tie.Need-same-length invariant-loop decreases-loop
 same_length c = c.before.loop.invariant.long
 
 returns : tie.Need-returns invariant-loop decreases-loop
-unfolding storeSlot
+unfolding store_slot
 returns c = copied_all c.before.loop.invariant c.loop-test.false
 
 pub store-slot-spec : {M : Type 1} → statement M

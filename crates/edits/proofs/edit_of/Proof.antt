@@ -36,10 +36,10 @@ returns c =
     let f = fits k in
     let wide : length (drop 6 p) ≤ kind.result = omega (arith, length-drop 6 p, kind.ensures.is, f.long) in
     record {
-      is-kind = kind.ensures.is;
+      is_kind = kind.ensures.is;
       is_seen = c.before.before.u16-at2.ensures.is;
-      is-new = c.before.u16-at3.ensures.is;
-      is-simplex = c.simplex-at.ensures ∙ take_all kind.result (drop 6 p) wide;
+      is_new = c.before.u16-at3.ensures.is;
+      is_simplex = c.simplex-at.ensures ∙ take_all kind.result (drop 6 p) wide;
     }
 
 pub edit-of-spec : {M : Type 1} → statement M

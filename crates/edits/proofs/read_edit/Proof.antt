@@ -4,7 +4,7 @@ use mathlib.Core.Bool.{true}
 use native.Mathlib.Omega.{arith}
 use lib.Dec.{eqb}
 use borrow.Author.Tests.{not-true, not-false}
-use Rattle.format.specs.Reading.{accepted, editFits}
+use Rattle.format.specs.Reading.{accepted, edit_fits}
 use Rattle.format.specs.Opened.{opened, opened_inside}
 use Rattle.stages.specs.Meaning.{opened_of}
 use Rattle.edits.proofs.Taking.{record-refused, one-too-many, misshapen, edit-named}
@@ -55,7 +55,7 @@ returns-2 c =
     (sym c.before.before.edit-fits.ensures ∙ not-true _ c.before.if2.true)
 
 -- past the test of its shape the payload has it
-fits : (c : tie.Else2) → editFits c.before.before.payload.result.now ≡ true
+fits : (c : tie.Else2) → edit_fits c.before.before.payload.result.now ≡ true
 fits c = sym c.before.edit-fits.ensures ∙ not-false _ c.if2.false
 
 edit-of-requires : tie.Need-edit-of-requires

@@ -4,11 +4,11 @@ use mathlib.Core.Path.{◌≡◌}
 use mathlib.Core.Logic.{⊎_elim}
 use native.Mathlib.Omega.{arith}
 use lib.ListN.{length}
-use Rattle.format.specs.Reading.{moved, listOfKind}
+use Rattle.format.specs.Reading.{moved, list_of_kind}
 use Rattle.format.specs.EditLaws.{MovedWithin}
 use Rattle.lists.specs.Items.{length-mapped}
 use Rattle.lists.specs.declared.Marks.{Marks}
-use Rattle.complexes.specs.Meaning.{complexOf}
+use Rattle.complexes.specs.Meaning.{complex_of}
 use Rattle.complexes.specs.declared.Complex.{Complex}
 use Rattle.edits.specs.Meaning.{MarksStay}
 use Rattle.edits.specs.declared.Edit.{Edit}
@@ -33,7 +33,7 @@ full c =
       edges = search (rules, length-mapped);
       triangles = search (rules, length-mapped);
       tetrahedra = search (rules, length-mapped);
-      all-marks = search rules;
+      all_marks = search rules;
     }
 
 loop-holds : tie.Need-loop-init invariant-loop decreases-loop
@@ -124,7 +124,7 @@ turn c =
       one = one;
       fine = fine;
       view = w.view_of.result;
-      views = w.view_of.ensures.views (complexOf (present l)) (named r).seen (one.least fine) (one.most fine) (viewed _ _ _ full.edges rank) (viewed _ _ _ full.triangles rank) (viewed _ _ _ full.tetrahedra rank);
+      views = w.view_of.ensures.views (complex_of (present l)) (named r).seen (one.least fine) (one.most fine) (viewed _ _ _ full.edges rank) (viewed _ _ _ full.triangles rank) (viewed _ _ _ full.tetrahedra rank);
       judged = c.judge.ensures;
     }
 
@@ -140,7 +140,7 @@ enum-told-2 c = search rules
 -- both positions are in the list
 within : (c : tie.After-enum-told2 invariant-loop decreases-loop)
     → let r = c.before.before.before.before.before.before.before.before.before.before.before in
-    let list = listOfKind (named r).kind (complexOf (present r.before.before)) in
+    let list = list_of_kind (named r).kind (complex_of (present r.before.before)) in
     MovedWithin (named r).seen (named r).new list (moved (named r).seen (named r).new list)
 within c = moves-within (turn c.before.before) c.enum-told2.given.1
 
@@ -172,7 +172,7 @@ replaced c =
     let e = c.before in
     let j = turn e.before.before in
     let l = e.before.before.before.before.before.before.before.before.before.before.before.before.before in
-    let below = (within e).new-below in
+    let below = (within e).new_below in
     ⊎_elim
     (λ w. rw (w.2, w.3, w.4) (edges-moved (present l) w.1.result below w.0.taken w.1.ensures))
     (⊎_elim
@@ -187,10 +187,10 @@ full-after c =
     let l = c.before.before.before.before.before.before.before.before.before.before.before.before.before.before in
     let full = l.loop.invariant.full in
     ⊎_elim
-    (λ w. rw (w.2, w.3, w.4) (record { edges = search (rules, length-mapped); triangles = full.triangles; tetrahedra = full.tetrahedra; all-marks = full.all-marks }))
+    (λ w. rw (w.2, w.3, w.4) (record { edges = search (rules, length-mapped); triangles = full.triangles; tetrahedra = full.tetrahedra; all_marks = full.all_marks }))
     (⊎_elim
-    (λ w. rw (w.3, w.4, w.5) (record { edges = full.edges; triangles = search (rules, length-mapped); tetrahedra = full.tetrahedra; all-marks = full.all-marks }))
-    (λ w. rw (w.3, w.4, w.5) (record { edges = full.edges; triangles = full.triangles; tetrahedra = search (rules, length-mapped); all-marks = full.all-marks })))
+    (λ w. rw (w.3, w.4, w.5) (record { edges = full.edges; triangles = search (rules, length-mapped); tetrahedra = full.tetrahedra; all_marks = full.all_marks }))
+    (λ w. rw (w.3, w.4, w.5) (record { edges = full.edges; triangles = full.triangles; tetrahedra = search (rules, length-mapped); all_marks = full.all_marks })))
     c.if1.branch
 
 -- the loop goes on with the list moved, and with any marks that hold the same set
@@ -207,7 +207,7 @@ goes_on c later stays all =
     let l = j.before.before.before.before.before.before.before.before.before.before.before in
     let full = full-after c in
     taking-goes-on l.loop.invariant (turn j) c.before.enum-told2.given.1 (changed c) (replaced c) later stays
-    (record { edges = full.edges; triangles = full.triangles; tetrahedra = full.tetrahedra; all-marks = all }) _ (sub-one _)
+    (record { edges = full.edges; triangles = full.triangles; tetrahedra = full.tetrahedra; all_marks = all }) _ (sub-one _)
 
 sub-left : tie.Need-overflow-sub-left invariant-loop decreases-loop
 sub-left c = let j = turn c.before.before.before in j.one.allowed j.fine
@@ -227,7 +227,7 @@ loop-again c =
     let j = turn e.before.before.before in
     let l = e.before.before.before.before.before.before.before.before.before.before.before.before.before.before in
     goes_on e c.moved4.result
-    (marks-go-along (replaced e) (j.one.least j.fine) (j.one.most j.fine) (within e.before) c.before.if3.true l.loop.invariant.full.all-marks c.moved4.ensures)
+    (marks-go-along (replaced e) (j.one.least j.fine) (j.one.most j.fine) (within e.before) c.before.if3.true l.loop.invariant.full.all_marks c.moved4.ensures)
     (search (rules, c.moved4.type-inv))
 
 loop-less-2 : tie.Need-loop-smaller-2 invariant-loop decreases-loop
@@ -237,7 +237,7 @@ loop-again-2 : tie.Need-loop-preserved-2 invariant-loop decreases-loop
 loop-again-2 c =
     let e = c.before in
     let l = e.before.before.before.before.before.before.before.before.before.before.before.before.before.before in
-    goes_on e l.loop.marks (marks-stand (replaced e) c.if3.false) l.loop.invariant.full.all-marks
+    goes_on e l.loop.marks (marks-stand (replaced e) c.if3.false) l.loop.invariant.full.all_marks
 
 returns-3 : tie.Need-returns-3 invariant-loop decreases-loop
 returns-3 c = taking-ends c.before.loop.invariant c.loop-test.false

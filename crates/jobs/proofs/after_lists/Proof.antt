@@ -4,7 +4,7 @@ use Prim.Native.Nat.{◌≤◌}
 use mathlib.Core.Path.{◌≡◌, refl, sym, subst}
 use Rattle.format.specs.Simplex.{Complex}
 use Rattle.lookup.specs.IndexLaws.{sound-proper}
-use Rattle.lent_lists.specs.Held.{complexIn}
+use Rattle.lent_lists.specs.Held.{complex_in}
 use Rattle.lent_lists.specs.HeldLaws.{few-simplices, held-counted, held-roomy}
 use Rattle.jobs.proofs.Laws.{chain-asked}
 use borrow.Author.Rules.{rules}
@@ -13,7 +13,7 @@ use Rattle.jobs.proofs.after_lists.Tie as tie
 
 -- the complex as the file lists it
 abbrev lists : tie.Start → Complex
-lists start = complexIn start.args.head.v start.args.counts start.args.e-keys.now start.args.t-keys.now start.args.s-keys.now
+lists start = complex_in start.args.head.v start.args.counts start.args.e-keys.now start.args.t-keys.now start.args.s-keys.now
 
 -- what is known once the simplices of A's dimension are counted
 abbrev begin : tie.After-of → tie.Start

@@ -7,12 +7,12 @@ use native.Mathlib.Omega.{arith}
 use lib.ListN.{length}
 use Rattle.format.specs.Numbers.{small}
 use Rattle.format.specs.Simplex.{Simplex}
-use Rattle.format.specs.Reading.{accepted, readList}
+use Rattle.format.specs.Reading.{accepted, read_list}
 use Rattle.lookup.specs.Indexed.{Indexed}
 use Rattle.lookup.specs.IndexLaws.{zeros-blank}
-use Rattle.lookup.specs.Numbered.{simplicesIn}
+use Rattle.lookup.specs.Numbered.{simplices_in}
 use Rattle.reading_lists.specs.Items.{FacesIn}
-use Rattle.stages.specs.Meaning.{end_at, RoomAt, listRead, FacesFound}
+use Rattle.stages.specs.Meaning.{end_at, RoomAt, list_read, FacesFound}
 use Rattle.stages.specs.declared.ListRead.{ListRead}
 use Rattle.stages.proofs.Laws.{edges-read}
 use Rattle.jobs.specs.Meaning.{ListSound, ListHeld}
@@ -22,9 +22,9 @@ use Rattle.jobs.proofs.read_lists.Statement.{statement}
 use Rattle.jobs.proofs.read_lists.Tie as tie
 
 -- an index of so many simplices is one of as many
-counted : (width : ℕ) {n m : ℕ} {keys first next : List ℕ} → n ≡ m → Indexed (simplicesIn width keys n) keys first next n
-    → Indexed (simplicesIn width keys m) keys first next m
-counted width {keys = keys} {first = first} {next = next} = subst (λ (k : ℕ). Indexed (simplicesIn width keys k) keys first next k)
+counted : (width : ℕ) {n m : ℕ} {keys first next : List ℕ} → n ≡ m → Indexed (simplices_in width keys n) keys first next n
+    → Indexed (simplices_in width keys m) keys first next m
+counted width {keys = keys} {first = first} {next = next} = subst (λ (k : ℕ). Indexed (simplices_in width keys k) keys first next k)
 
 -- the edges were read, over no list
 module _ (c : tie.After-read-list) where
@@ -41,9 +41,9 @@ module _ (c : tie.After-read-list) where
   edge-keys = c.read-list.new.1.1.1.1.0
 
   abbrev edge-list : List Simplex
-  edge-list = simplicesIn 2 edge-keys edges.count
+  edge-list = simplices_in 2 edge-keys edges.count
 
-  edges-told : listRead 2 edge-keys edges ≡ readList small job start.args.at 2 start.args.v []
+  edges-told : list_read 2 edge-keys edges ≡ read_list small job start.args.at 2 start.args.v []
   edges-told = edges-read c.read-list.ensures [] (no-faces _ edge-keys).sound (omega arith)
 
 -- and none of them was refused
@@ -52,7 +52,7 @@ module _ (c : tie.After-enum-told) where
   first_read = c.before.before.before.before.before.before.before.before
 
   edges-fine : let e = first_read in
-      readList small (job e) (start e).args.at 2 (start e).args.v [] ≡ accepted (record { list = edge-list e; next = (edges e).next })
+      read_list small (job e) (start e).args.at 2 (start e).args.v [] ≡ accepted (record { list = edge-list e; next = (edges e).next })
   edges-fine =
       let e = first_read in
       list-fine (job e) (start e).args.at 2 (start e).args.v [] (edge-keys e) (edges e) (edges-told e) c.enum_told.given.1
@@ -88,7 +88,7 @@ module _ (c : tie.After-find-faces) where
   triangles = c.find-faces.result
 
   abbrev triangle-list : List Simplex
-  triangle-list = simplicesIn 3 (triangle-keys triangles-taken) triangles.count
+  triangle-list = simplices_in 3 (triangle-keys triangles-taken) triangles.count
 
   triangles-found : let e = edges-before in
       FacesFound (job e) (edges e).next 3 (start e).args.v (edge-list e) (triangle-keys triangles-taken) c.find-faces.new.1.1.1.1.1.1.1.1.1.0
@@ -108,7 +108,7 @@ module _ (c : tie.After-enum-told2) where
   before-them = edges-before second-read
 
   triangles-fine : let e = before-them in
-      readList small (job e) (edges e).next 3 (start e).args.v (edge-list e)
+      read_list small (job e) (edges e).next 3 (start e).args.v (edge-list e)
       ≡ accepted (record { list = triangle-list second-read; next = (triangles second-read).next })
   triangles-fine =
       let e = before-them in
@@ -139,11 +139,11 @@ module _ (c : tie.After-read-tetrahedra) where
   abbrev tetrahedron-keys : List ℕ
   tetrahedron-keys = c.read-tetrahedra.new.1.1.1.1.1.1.1.0
 
-  abbrev tetrahedron-sides : List ℕ
-  tetrahedron-sides = c.read-tetrahedra.new.1.1.1.1.1.1.1.1.0
+  abbrev tetrahedron_sides : List ℕ
+  tetrahedron_sides = c.read-tetrahedra.new.1.1.1.1.1.1.1.1.0
 
   tetrahedra-held : let e = before-them lists-read in
-      ListHeld (job e) (triangles (second-read lists-read)).next 4 (start e).args.v (triangle-list (second-read lists-read)) tetrahedron-keys tetrahedron-sides
+      ListHeld (job e) (triangles (second-read lists-read)).next 4 (start e).args.v (triangle-list (second-read lists-read)) tetrahedron-keys tetrahedron_sides
       c.read-tetrahedra.result
   tetrahedra-held = c.read-tetrahedra.ensures _ (under-tetrahedra lists-read)
 
@@ -198,7 +198,7 @@ find-faces-requires c κs =
       (omega arith, omega arith, omega (arith, e.read-list.ensures.few)),
       (
         e.read-list.ensures.indexed.chained,
-        ((taken.indexed.chained.keyed, omega (arith, taken.indexed.chained.keyed, (start e).pre.0.triangle-sides, read.read-list2.auto.1.1.1.1.0)), taken.within),
+        ((taken.indexed.chained.keyed, omega (arith, taken.indexed.chained.keyed, (start e).pre.0.triangle_sides, read.read-list2.auto.1.1.1.1.0)), taken.within),
       ),
     )
 
@@ -250,7 +250,7 @@ read-tetrahedra-requires c κs =
     let room = (start e).pre.0 in (
       subst (λ (n : ℕ). RoomAt (job e) n 4 (length (start e).args.s-keys.now)) (sym (triangles-end over)) room.tetrahedra,
       (
-        room.tetrahedron-sides,
+        room.tetrahedron_sides,
         ((triangles-indexed t).chained, omega (arith, (triangles-found t).count, (triangles-taken t).read-list2.ensures.few)),
       ),
     )
@@ -295,7 +295,7 @@ returns-3 c =
     record {
       reads =
           all-lists (job e) (start e).args.at v _ (edges-fine (over-edges (triangles-taken t))) _ (triangles-fine told) tetrahedra.verdict
-          (record { list = simplicesIn 4 (tetrahedron-keys read) tetrahedra.count; next = tetrahedra.next }) (sym listed.reads);
+          (record { list = simplices_in 4 (tetrahedron-keys read) tetrahedra.count; next = tetrahedra.next }) (sym listed.reads);
       held = λ f few. record {
         sound =
             complex-sound v _ _ _ few (edges-known (over-edges (triangles-taken t))) (triangles-known told)
@@ -305,21 +305,21 @@ returns-3 c =
           edges = omega (arith, edges-in.chained.keyed, edges-in.keyed.count);
           triangles = omega (arith, (triangles-indexed t).chained.keyed, (triangles-indexed t).keyed.count);
           tetrahedra = omega (arith, listed.within, listed.keyed.count);
-          triangle-sides =
+          triangle_sides =
               omega (
                 arith,
                 (triangles-indexed t).chained.keyed,
                 (triangles-indexed t).keyed.count,
-                room.triangle-sides,
+                room.triangle_sides,
                 taken.kept.1.1.1.1.0,
                 t.find-faces.kept.1.1.1.1.1.1.1.1.1.0,
               );
-          tetrahedron-sides =
+          tetrahedron_sides =
               omega (
                 arith,
                 listed.within,
                 listed.keyed.count,
-                room.tetrahedron-sides,
+                room.tetrahedron_sides,
                 read.read-tetrahedra.kept.1.1.1.1.1.1.1.0,
                 read.read-tetrahedra.kept.1.1.1.1.1.1.1.1.0,
               );
@@ -327,8 +327,8 @@ returns-3 c =
         edges = edges-in.keyed;
         triangles = (triangles-indexed t).keyed;
         tetrahedra = listed.keyed;
-        triangle-sides = (triangles-found t).sided told.enum-told2.given.1;
-        tetrahedron-sides = listed.sided f;
+        triangle_sides = (triangles-found t).sided told.enum-told2.given.1;
+        tetrahedron_sides = listed.sided f;
       };
       linked = λ f. edges-in;
     }

@@ -7,7 +7,7 @@ use mathlib.Core.Path.{sym, subst}
 use mathlib.Core.List.{List}
 use Rattle.lookup.specs.Indexed.{Keyed}
 use Rattle.lookup.specs.IndexLaws.{zeros-blank}
-use Rattle.lookup.specs.Numbered.{simplicesIn}
+use Rattle.lookup.specs.Numbered.{simplices_in}
 use Rattle.jobs.proofs.Laws.{nothing-held}
 use borrow.Author.Rules.{rules}
 use Rattle.jobs.proofs.read_tetrahedra.Statement.{statement}
@@ -66,7 +66,7 @@ returns-2 c = λ faces under.
     let found = done.find-faces.ensures _ _ taken faces under in
     record {
       reads = found.reads;
-      keyed = subst (λ (n : ℕ). Keyed (simplicesIn 4 (keys read) n) (keys read) n) (sym found.count) taken.indexed.keyed;
+      keyed = subst (λ (n : ℕ). Keyed (simplices_in 4 (keys read) n) (keys read) n) (sym found.count) taken.indexed.keyed;
       within = omega (arith, found.count, taken.indexed.chained.keyed);
       sided = found.sided;
     }

@@ -6,12 +6,12 @@ use mathlib.Core.List.{List}
 use native.Mathlib.Omega.{arith}
 use lib.ListN.{length}
 use lib.Dec.{eqb}
-use Rattle.format.specs.Numbers.{small, headKind}
-use Rattle.format.specs.Reading.{accepted, readHead, payloadAt}
+use Rattle.format.specs.Numbers.{small, head_kind}
+use Rattle.format.specs.Reading.{accepted, read_head, payload_at}
 use Rattle.format.specs.Opened.{opened}
-use Rattle.format.specs.Places.{too_long}
+use Rattle.format.specs.Places.{too_long_lem}
 use Rattle.lists.specs.Verdicts.{told}
-use Rattle.heads.specs.Meaning.{headReading}
+use Rattle.heads.specs.Meaning.{head_reading}
 use Rattle.stages.specs.Meaning.{opened_of}
 use Rattle.jobs.proofs.Laws.{unedited-refused, unedited-same, head-refused, head-misshapen, head-bad, head-fine, head-known}
 use borrow.Author.Rules.{rules}
@@ -32,7 +32,7 @@ module _ (c : tie.After-opened2) where
   abbrev size : ℕ
   size = c.opened2.given.0.0
 
-  whole : opened (eqb headKind) job 0 ≡ accepted size
+  whole : opened (eqb head_kind) job 0 ≡ accepted size
   whole = told (opened_of 0) _ _ _ c.before.before.«open».ensures c.opened2.given.1
 
 -- it has a head's four bytes, and the head was read
@@ -43,14 +43,14 @@ module _ (c : tie.After-read-head) where
   four : size record-at ≡ 4
   four = omega (arith, c.before.before.if2.false)
 
-  head_read : headReading c.read_head.result ≡ readHead small (payloadAt (job record-at) 0 (size record-at))
-  head_read = c.read_head.ensures.reading ∙ ap (readHead small) c.before.payload.ensures
+  head_read : head_reading c.read_head.result ≡ read_head small (payload_at (job record-at) 0 (size record-at))
+  head_read = c.read_head.ensures.reading ∙ ap (read_head small) c.before.payload.ensures
 
 refused-requires : tie.Need-refused-requires
 refused-requires c κs = search rules
 
 returns : tie.Need-returns
-returns c = unedited-refused _ c.refused.result _ _ (too_long small _ c.before.if1.true) c.refused.ensures
+returns c = unedited-refused _ c.refused.result _ _ (too_long_lem small _ c.before.if1.true) c.refused.ensures
 
 open-requires : tie.Need-open-requires
 open-requires c κs = search rules
@@ -109,7 +109,7 @@ returns-4 c =
     let record-open = read.before.before.before.before in
     unedited-refused _ c.refused4.result _ _
     (head-bad (job record-open) (short record-open) (size record-open) (whole record-open) (four read)
-    (told headReading _ _ _ (head_read read) c.before.enum_told.given.1))
+    (told head_reading _ _ _ (head_read read) c.before.enum_told.given.1))
     c.refused4.ensures
 
 same_length : tie.Need-same-length
@@ -134,7 +134,7 @@ returns-5 c =
     let record-open = read.before.before.before.before in
     unedited-same done.after-head.result
     (head-fine (job record-open) (short record-open) (size record-open) (whole record-open) (four read) _
-    (told headReading _ _ _ (head_read read) done.before.before.before.before.before.before.before.read.given.1))
+    (told head_reading _ _ _ (head_read read) done.before.before.before.before.before.before.before.read.given.1))
     done.after-head.ensures
 
 pub read-unedited-spec : {M : Type 1} → statement M

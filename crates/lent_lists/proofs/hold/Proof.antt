@@ -64,7 +64,7 @@ find-sides-requires c κs =
         omega arith,
         omega (arith, edges.1),
         triangles.0.chained.keyed,
-        omega (arith, triangles.0.keyed.count, (begin all).requires.triangle-sides),
+        omega (arith, triangles.0.keyed.count, (begin all).requires.triangle_sides),
       ),
     )
 
@@ -84,7 +84,7 @@ find-sides-requires-2 c κs =
         omega arith,
         omega (arith, triangles.1),
         tetrahedra.0.chained.keyed,
-        omega (arith, tetrahedra.0.keyed.count, (begin all).requires.tetrahedron-sides),
+        omega (arith, tetrahedra.0.keyed.count, (begin all).requires.tetrahedron_sides),
       ),
     )
 
@@ -122,8 +122,8 @@ returns c =
       edges = omega (arith, room.edges, (first all).index.kept.1.0);
       triangles = omega (arith, room.triangles, (second all).index2.kept.1.0);
       tetrahedra = omega (arith, room.tetrahedra, all.index3.kept.1.0);
-      triangle-sides = omega (arith, room.triangle-sides, (half-sided c).find-sides.auto);
-      tetrahedron-sides = omega (arith, room.tetrahedron-sides, (sided c).find-sides2.auto);
+      triangle_sides = omega (arith, room.triangle_sides, (half-sided c).find-sides.auto);
+      tetrahedron_sides = omega (arith, room.tetrahedron_sides, (sided c).find-sides2.auto);
     })
     (first all).index.ensures.0.keyed (second all).index2.ensures.0.keyed all.index3.ensures.0.keyed
     (half-sided c).find-sides.ensures (sided c).find-sides2.ensures

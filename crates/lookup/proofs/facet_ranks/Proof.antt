@@ -32,7 +32,7 @@ module _ (c : tie.After-find invariant-loop decreases-loop) where
   begin = turn.before.before.before.before.before
 
   few-digits : turn.before.loop.ranks < 281474976710656
-  few-digits = turn.before.loop.inv.three-digits (omega (arith, turn.loop-test.taken, begin.pre.1.0))
+  few-digits = turn.before.loop.inv.three_digits (omega (arith, turn.loop-test.taken, begin.pre.1.0))
 
   low : (c.find.result ≡ 0 → ⊥) → c.find.result - 1 < 65536
   low = place-below turn.before.loop.inv turn.loop-test.taken begin.pre.1.0 c.before.facet-number.ensures c.find.ensures begin.pre.1.1

@@ -4,7 +4,7 @@ use Prim.Native.Nat.{◌-◌, ◌<◌}
 use mathlib.Core.Path.{◌≡◌, sym, ◌∙◌}
 use native.Mathlib.Omega.{arith}
 use lib.ListN.{length}
-use Rattle.lists.specs.Meaning.{simplicesOf}
+use Rattle.lists.specs.Meaning.{simplices_of}
 use Rattle.lists.specs.Items.{length-mapped, counted, length-simplices, simplex-at}
 use Rattle.lookup.specs.IndexLaws.{Indexing, indexing-start, indexing-on, indexing-end}
 use borrow.Author.Rules.{rules}
@@ -12,7 +12,7 @@ use Rattle.lookup.proofs.index.Statement.{statement}
 use Rattle.lookup.proofs.index.Tie as tie
 
 abbrev invariant-loop : tie.invariant-loop
-invariant-loop keys₀ first₀ next₀ list n i₀ keys first next i = Indexing (simplicesOf list) n keys₀ next₀ keys first next i
+invariant-loop keys₀ first₀ next₀ list n i₀ keys first next i = Indexing (simplices_of list) n keys₀ next₀ keys first next i
 
 abbrev decreases-loop : tie.decreases-loop
 decreases-loop keys₀ first₀ next₀ list n i₀ keys first next i = n - i
@@ -23,7 +23,7 @@ least-requires c κs = search rules
 loop-holds : tie.Need-loop-init invariant-loop decreases-loop
 loop-holds c =
     let start = c.before.before.before.before in
-    indexing-start (simplicesOf start.args.t1) _ (counted _ _ (search (rules, length-mapped)) c.least.ensures) start.requires.0.none
+    indexing-start (simplices_of start.args.t1) _ (counted _ _ (search (rules, length-mapped)) c.least.ensures) start.requires.0.none
 
 mul-enter : tie.Need-overflow-mul-enter invariant-loop decreases-loop
 mul-enter c = search rules
@@ -32,7 +32,7 @@ element-copy-out-enter : tie.Need-element-copy-out-enter invariant-loop decrease
 element-copy-out-enter c = omega (arith, c.before.before.before.loop-test.true, c.before.before.before.before.before.least.ensures)
 
 -- all of the list's simplices are entered
-whole : (c : tie.In-loop invariant-loop decreases-loop) → c.before.before.least.result ≡ length (simplicesOf c.before.before.before.before.before.before.args.t1)
+whole : (c : tie.In-loop invariant-loop decreases-loop) → c.before.before.least.result ≡ length (simplices_of c.before.before.before.before.before.before.args.t1)
 whole c = counted _ _ (search (rules, length-mapped)) c.before.before.least.ensures
 
 enter-requires : tie.Need-enter-requires invariant-loop decreases-loop
@@ -43,8 +43,8 @@ enter-requires c κs =
     let below : turn.before.loop.i < 512 = omega (arith, turn.loop-test.true, turn.before.before.least.ensures) in (
       now.entered.chained,
       (
-        omega (arith, now.keys-long, turn.loop-test.true, whole turn, start.requires.1),
-        omega (arith, now.next-long, start.requires.0.room),
+        omega (arith, now.keys_long, turn.loop-test.true, whole turn, start.requires.1),
+        omega (arith, now.next_long, start.requires.0.room),
         omega (arith, below),
       ),
     )

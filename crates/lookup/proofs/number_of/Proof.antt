@@ -4,7 +4,7 @@ use Prim.Native.Nat.{suc}
 use mathlib.Core.Path.{◌≡◌}
 use native.Mathlib.Omega.{arith}
 use lib.ListN.{length, length-take}
-use Rattle.lists.specs.Meaning.{verticesOf}
+use Rattle.lists.specs.Meaning.{vertices_of}
 use borrow.Author.Rules.{rules}
 use Rattle.lookup.proofs.number_of.Statement.{statement}
 use Rattle.lookup.proofs.number_of.Tie as tie
@@ -40,7 +40,7 @@ returns : tie.Need-returns
 returns c =
     let a = c.before.before.before.before.before.args in
     let four : length a.s.vertices ≡ 4 = search rules in
-    c.number.ensures (verticesOf a.s) (omega (arith, four, length-take (suc a.s.dim) a.s.vertices))
+    c.number.ensures (vertices_of a.s) (omega (arith, four, length-take (suc a.s.dim) a.s.vertices))
     c.before.before.before.before.vertex.ensures c.before.before.before.vertex2.ensures c.before.before.vertex3.ensures
     c.before.vertex4.ensures
 

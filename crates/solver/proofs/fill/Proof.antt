@@ -1,7 +1,7 @@
 -- `fill` loads the slots, which leaves the pair in hand as long as it was, marks the chain in it, and asks what the slots make of it.
 -- Assumes nothing.
 use mathlib.Core.Path.{refl, ◌∙◌}
-use Rattle.solver.proofs.Solving.{prepared, fill-told}
+use Rattle.solver.proofs.Solving.{prepared, fill_told}
 use borrow.Author.Rules.{rules}
 use Rattle.solver.proofs.fill.Statement.{statement}
 use Rattle.solver.proofs.fill.Tie as tie
@@ -35,8 +35,8 @@ returns c = λ k.
     let marked = done.before.before.before.before.before.before in
     let loaded = marked.before.before.before.before.before.before.before in
     let start = loaded.before.before.before.before.before.before.before in
-    fill-told _ _ _ _
-    (prepared _ _ _ _ k.few-rows (loaded.load.auto.1.0 ∙ start.requires.1.1.1.0) (loaded.load.ensures k) marked.mark.ensures)
+    fill_told _ _ _ _
+    (prepared _ _ _ _ k.few_rows (loaded.load.auto.1.0 ∙ start.requires.1.1.1.0) (loaded.load.ensures k) marked.mark.ensures)
     done.fill-in.ensures
 
 pub fill_spec : {M : Type 1} → statement M

@@ -7,7 +7,7 @@ use mathlib.Core.Path.{◌≡◌}
 use mathlib.Core.Bool.{true}
 use mathlib.Core.List.{List}
 use lib.ListN.{length}
-use Rattle.format.specs.Simplex.{Simplex, risingFrom}
+use Rattle.format.specs.Simplex.{Simplex, rising_from}
 use Rattle.lookup.specs.Sides.{Sides}
 use Rattle.solver.proofs.Climbing.{Climbing, climbing-start, climbing-on, climbing-end}
 use borrow.Author.Rules.{rules}
@@ -17,7 +17,7 @@ use Rattle.solver.proofs.highest_side.Tie as tie
 -- the highest rank when so many facets are left, with these sides
 abbrev Climbed : tie.Start → ℕ → ℕ → ℕ → Type 0
 Climbed start left rest top =
-    (rows : List Simplex) (s : Simplex) → length s ≡ start.args.size → 0 < start.args.size → risingFrom 0 s ≡ true
+    (rows : List Simplex) (s : Simplex) → length s ≡ start.args.size → 0 < start.args.size → rising_from 0 s ≡ true
     → Sides rows s start.args.size start.args.sides → Climbing rows s left rest top
 
 one : (p : tie.Start) → Climbed p (p.args.size - 1) (p.args.sides / 65536) (p.args.sides % 65536)

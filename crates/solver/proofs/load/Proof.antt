@@ -5,7 +5,7 @@ use mathlib.Core.Path.{◌≡◌, sym, ap, ◌∙◌, subst}
 use mathlib.Core.Bool.{false}
 use lib.ListN.{length, length-replicate}
 use native.Mathlib.Omega.{arith}
-use Rattle.columns.specs.Slot.{roomOf}
+use Rattle.columns.specs.Slot.{room_of}
 use Rattle.solver.specs.Columns.{MatrixIn}
 use Rattle.solver.proofs.Loading.{Loading, loading-start, loading-on, loading-end}
 use borrow.Author.Rules.{rules}
@@ -55,7 +55,7 @@ put-column-requires c κs =
         (
           all-rows turn.before,
           (
-            subst (λ n. roomOf start.args.h ≤ n) (sym (same-lengths turn.before).0) start.pre.1.1.0,
+            subst (λ n. room_of start.args.h ≤ n) (sym (same-lengths turn.before).0) start.pre.1.1.0,
             ((same-lengths turn.before).1, start.pre.1.1.1.1.1),
           ),
         ),

@@ -31,7 +31,7 @@ module _ (p : tie.After-highest-side) where
 
   -- that row has a slot, and the slot its place among those that are taken
   row_low : p.highest-side.result < 8 * begin.args.h
-  row_low = omega (arith, (highest begin.pre.0).below, begin.pre.0.few-rows)
+  row_low = omega (arith, (highest begin.pre.0).below, begin.pre.0.few_rows)
 
   row_listed : p.highest-side.result < length begin.args.taken.now
   row_listed = omega (arith, (highest begin.pre.0).below, begin.pre.0.row_count, begin.pre.1.1.0)
@@ -41,7 +41,7 @@ module _ (p : tie.After-highest-side) where
 
   -- the rank is one of a column, and all ranks of columns are bits of the second half
   in-half : begin.args.rank < 8 * begin.args.h
-  in-half = omega (arith, begin.pre.1.0, begin.pre.0.count, begin.pre.0.few-columns)
+  in-half = omega (arith, begin.pre.1.0, begin.pre.0.count, begin.pre.0.few_columns)
 
   bits-low : 8 * begin.args.h + 8 * begin.args.h < 2 ^ 64
   bits-low =
@@ -57,7 +57,7 @@ module _ (p : tie.After-highest-side) where
       → HoldsColumn begin.args.h k.rows (get_or k.high begin.args.rank []) begin.args.rank after
   holds-column k written whole =
       let lt = begin.pre.1.0 in
-      (written k.rows _ (k.wide _ lt) k.some k.most (column-sides k lt)).column _ _ whole k.few-rows in-half refl
+      (written k.rows _ (k.wide _ lt) k.some k.most (column-sides k lt)).column _ _ whole k.few_rows in-half refl
 
   -- a pair of columns has room for its boundary
   fits-pair : {bytes : ℕ} → bytes ≡ 2 * begin.args.h
@@ -180,7 +180,7 @@ returns c = λ k.
     let written = put.before.before.before.before.before.before in
     let found = written.before.before.before.before.before in
     let start = begin found in
-    next-inserted k.rows k.high (omega (arith, start.pre.1.0, k.count)) k.few-rows
+    next-inserted k.rows k.high (omega (arith, start.pre.1.0, k.count)) k.few_rows
     (holds-column found k written.write-column.ensures start.pre.1.1.1.1.0) (highest found k) put.insert-column.ensures
 
 same-length-4 : tie.Need-same-length-4
@@ -197,7 +197,7 @@ returns-2 c = λ k.
     let room = start.pre.1.1.1.0 in
     let r = found.highest-side.result in
     let whole = written.write-column2.auto.0 ∙ part-whole found in
-    next-written k.rows k.high (omega (arith, start.pre.1.0, k.count)) k.few-rows
+    next-written k.rows k.high (omega (arith, start.pre.1.0, k.count)) k.few_rows
     (holds-column found k written.write-column2.ensures (part-whole found)) (highest found k) room whole (row_listed found) written.before.before.before.if1.false
     (part-stored start.args.h start.args.work.now r _ (same_size found) written.write-column2.new.0 whole)
 

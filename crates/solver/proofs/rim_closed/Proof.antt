@@ -69,7 +69,7 @@ loop-again c = λ k.
     let a = turn.before.loop.invariant k in
     let lt : turn.before.loop.i < length k.high = omega (arith, turn.loop-test.true, k.count) in
     ⊎_elim
-    (λ w. rimming-add _ _ _ _ a lt w.0.taken k.few-rows
+    (λ w. rimming-add _ _ _ _ a lt w.0.taken k.few_rows
     (w.3.ensures _ _ (k.wide _ turn.loop-test.true) k.some k.most (column-sides k turn.loop-test.true))
     w.3.kept.0 w.6)
     (λ w. rimming-skip _ _ _ _ a lt w.0.left w.1)
@@ -79,7 +79,7 @@ next-down-requires : tie.Need-next-down-requires invariant-loop decreases-loop
 next-down-requires c κs =
     let head = c.before.before in
     let start = begin head in
-    omega (arith, whole head, start.pre.1.1, start.pre.0.row_count, start.pre.0.few-rows)
+    omega (arith, whole head, start.pre.1.1, start.pre.0.row_count, start.pre.0.few_rows)
 
 enum_told : tie.Need-enum-told invariant-loop decreases-loop
 enum_told c = search rules
@@ -97,7 +97,7 @@ same_length c = whole c.before.before.before.before.before
 returns : tie.Need-returns invariant-loop decreases-loop
 returns c = λ k.
     let end = c.before.before.before.before in
-    rim-open _ _ _ _ (end.before.loop.invariant k) (rows_end end k) k.few-rows k.row_count
+    rim-open _ _ _ _ (end.before.loop.invariant k) (rows_end end k) k.few_rows k.row_count
     c.before.before.next_down.ensures c.enum_told.given.1
 
 same-length-2 : tie.Need-same-length-2 invariant-loop decreases-loop
@@ -106,7 +106,7 @@ same-length-2 c = whole c.before.before.before.before.before
 returns-2 : tie.Need-returns-2 invariant-loop decreases-loop
 returns-2 c = λ k.
     let end = c.before.before.before.before in
-    rim-empty _ _ _ _ (end.before.loop.invariant k) (rows_end end k) k.few-rows k.row_count
+    rim-empty _ _ _ _ (end.before.loop.invariant k) (rows_end end k) k.few_rows k.row_count
     c.before.before.next_down.ensures c.enum-told2.given.1
 
 pub rim-closed-spec : {M : Type 1} → statement M

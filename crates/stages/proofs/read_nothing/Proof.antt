@@ -8,7 +8,7 @@ use lib.Dec.{eqb}
 use Rattle.format.specs.Reading.{Reading, Listing, accepted}
 use Rattle.format.specs.Opened.{opened_inside}
 use Rattle.lists.specs.Verdicts.{reading_of}
-use Rattle.lookup.specs.Numbered.{simplicesIn}
+use Rattle.lookup.specs.Numbered.{simplices_in}
 use Rattle.lookup.specs.NumberedLaws.{none_in}
 use Rattle.stages.specs.Meaning.{size_of, size_at, ListOpened, SizedList}
 use Rattle.stages.proofs.Laws.{list-nothing}
@@ -60,7 +60,7 @@ returns c =
     let a = read.before.before.args in
     record {
       reads = λ v faces keys.
-          ap (λ x. reading_of x (record { list = simplicesIn a.kind keys c.refused.result.count; next = c.refused.result.next })) c.refused.ensures.0
+          ap (λ x. reading_of x (record { list = simplices_in a.kind keys c.refused.result.count; next = c.refused.result.next })) c.refused.ensures.0
           ∙ sym (subst (ListOpened a.job.now a.at a.kind) known.opened.given.1 read.open-list.ensures v faces);
       none = c.refused.ensures.1;
     }

@@ -4,20 +4,20 @@ use native.Mathlib.Omega.{arith}
 use mathlib.Core.Path.{◌≡◌, refl, ◌∙◌, ap}
 use mathlib.Core.Logic.{⊎_elim}
 use lib.ListN.{length, take}
-use Rattle.format.specs.Writing.{placesFrom}
+use Rattle.format.specs.Writing.{places_from}
 use Rattle.writer.proofs.Records.{counts-one, counts-none}
 use borrow.Author.Rules.{rules}
 use Rattle.writer.proofs.count_marks.Statement.{statement}
 use Rattle.writer.proofs.count_marks.Tie as tie
 
 abbrev invariant-loop : tie.invariant-loop
-invariant-loop n marks count₀ i₀ count i = (i ≤ n) × (count ≤ i) × (count ≡ length (placesFrom 0 (take i marks.on)))
+invariant-loop n marks count₀ i₀ count i = (i ≤ n) × (count ≤ i) × (count ≡ length (places_from 0 (take i marks.on)))
 
 abbrev decreases-loop : tie.decreases-loop
 decreases-loop n marks count₀ i₀ count i = n - i
 
 loop-holds : tie.Need-loop-init invariant-loop decreases-loop
-loop-holds c = (omega arith, omega arith, unfold placesFrom in refl)
+loop-holds c = (omega arith, omega arith, unfold places_from in refl)
 
 element-copy-out-if1 : tie.Need-element-copy-out-if1 invariant-loop decreases-loop
 element-copy-out-if1 c = search rules
@@ -45,7 +45,7 @@ returns : tie.Need-returns invariant-loop decreases-loop
 returns c =
     let at = c.before.loop in
     let end : at.i ≡ c.before.before.args.n = omega arith in
-    at.invariant.2 ∙ ap (λ k. length (placesFrom 0 (take k c.before.before.args.t1.on))) end
+    at.invariant.2 ∙ ap (λ k. length (places_from 0 (take k c.before.before.args.t1.on))) end
 
 pub count-marks-spec : {M : Type 1} → statement M
 count-marks-spec =

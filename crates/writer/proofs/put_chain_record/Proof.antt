@@ -1,6 +1,6 @@
 -- `writer::put_chain_record` meets its contract: the payload is put, and then the header that says how long it is.
 use native.Mathlib.Omega.{arith}
-use Rattle.writer.specs.Meaning.{markBytes}
+use Rattle.writer.specs.Meaning.{mark_bytes}
 use Rattle.writer.proofs.Records.{record-put}
 use borrow.Author.Rules.{rules}
 use Rattle.writer.proofs.put_chain_record.Statement.{statement}
@@ -27,7 +27,7 @@ same_length c = search rules
 returns : tie.Need-returns
 returns c =
     let a = c.before.before.before.before.before.before.before.before.before.args in
-    record-put a.out.now a.at 5 (markBytes a.n a.marks.on) _ _ _ (omega arith) c.before.before.before.before.before.before.put-marks.ensures c.before.before.put-header.ensures
+    record-put a.out.now a.at 5 (mark_bytes a.n a.marks.on) _ _ _ (omega arith) c.before.before.before.before.before.before.put-marks.ensures c.before.before.put-header.ensures
 
 pub put-chain-record-spec : {M : Type 1} → statement M
 put-chain-record-spec =

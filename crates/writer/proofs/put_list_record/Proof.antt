@@ -1,7 +1,7 @@
 -- `writer::put_list_record` meets its contract: the payload is put, and then the header that says how long it is.
 use native.Mathlib.Omega.{arith}
-use Rattle.lists.specs.Meaning.{simplicesOf}
-use Rattle.writer.specs.Meaning.{listBytes}
+use Rattle.lists.specs.Meaning.{simplices_of}
+use Rattle.writer.specs.Meaning.{list_bytes}
 use Rattle.writer.proofs.Records.{record-put}
 use borrow.Author.Rules.{rules}
 use Rattle.writer.proofs.put_list_record.Statement.{statement}
@@ -25,7 +25,7 @@ same_length c = search rules
 returns : tie.Need-returns
 returns c =
     let a = c.before.before.before.before.before.before.before.before.before.args in
-    record-put a.out.now a.at a.kind (listBytes (simplicesOf a.list)) _ _ _ (omega arith) c.before.before.before.before.before.before.put-list.ensures c.before.before.put-header.ensures
+    record-put a.out.now a.at a.kind (list_bytes (simplices_of a.list)) _ _ _ (omega arith) c.before.before.before.before.before.before.put-list.ensures c.before.before.put-header.ensures
 
 pub put-list-record-spec : {M : Type 1} → statement M
 put-list-record-spec =

@@ -3,21 +3,21 @@ use Prim.Native.Nat.{◌-◌}
 use native.Mathlib.Omega.{arith}
 use mathlib.Core.Path.{◌≡◌, refl}
 use lib.ListN.{length}
-use Rattle.format.specs.Writing.{placesFrom, positionBytes}
-use Rattle.writer.proofs.Runs.{Run, run-starts, run_ends, upToMark, mark-room, marks-go-on}
+use Rattle.format.specs.Writing.{places_from, position_bytes}
+use Rattle.writer.proofs.Runs.{Run, run-starts, run_ends, up_to_mark, mark-room, marks-go-on}
 use borrow.Author.Rules.{rules}
 use Rattle.writer.proofs.put_marks.Statement.{statement}
 use Rattle.writer.proofs.put_marks.Tie as tie
 
 abbrev invariant-loop : tie.invariant-loop
 invariant-loop out₀ at n marks next₀ i₀ out next i =
-    Run out₀ at (upToMark marks.on) n out next i
+    Run out₀ at (up_to_mark marks.on) n out next i
 
 abbrev decreases-loop : tie.decreases-loop
 decreases-loop out₀ at n marks next₀ i₀ out next i = n - i
 
 loop-holds : tie.Need-loop-init invariant-loop decreases-loop
-loop-holds c = run-starts _ _ _ _ (unfold placesFrom positionBytes in refl)
+loop-holds c = run-starts _ _ _ _ (unfold places_from position_bytes in refl)
 
 element-copy-out-put-mark : tie.Need-element-copy-out-put-mark invariant-loop decreases-loop
 element-copy-out-put-mark c = search rules

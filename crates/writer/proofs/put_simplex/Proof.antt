@@ -1,14 +1,14 @@
 -- `writer::put_simplex` meets its contract: the loop keeps `Spelling`.
 use Prim.Native.Nat.{◌-◌}
 use native.Mathlib.Omega.{arith}
-use Rattle.lists.specs.Meaning.{verticesOf}
+use Rattle.lists.specs.Meaning.{vertices_of}
 use Rattle.writer.proofs.Pieces.{Spelling, spelling-starts, spelling-goes-on, spelled, vertex-read}
 use borrow.Author.Rules.{rules}
 use Rattle.writer.proofs.put_simplex.Statement.{statement}
 use Rattle.writer.proofs.put_simplex.Tie as tie
 
 abbrev invariant-loop : tie.invariant-loop
-invariant-loop out₀ at s size i₀ out i = Spelling out₀ at (verticesOf s) size out i
+invariant-loop out₀ at s size i₀ out i = Spelling out₀ at (vertices_of s) size out i
 
 abbrev decreases-loop : tie.decreases-loop
 decreases-loop out₀ at s size i₀ out i = size - i

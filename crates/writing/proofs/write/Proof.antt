@@ -3,7 +3,7 @@
 use native.Mathlib.Omega.{arith}
 use Rattle.format.specs.Numbers.{small}
 use Rattle.format.specs.Places.{reading-refused}
-use Rattle.jobs.specs.Known.{read-readable}
+use Rattle.jobs.specs.Known.{read_readable}
 use Rattle.writing.proofs.Laws.{read-refused, write-refused, write-accepted}
 use borrow.Author.Rules.{rules}
 use Rattle.writing.proofs.write.Statement.{statement}
@@ -29,7 +29,7 @@ enum_told c = search rules
 
 write-read-requires : tie.Need-write-read-requires
 write-read-requires c κs =
-    read-readable _ c.before.before.before.before.read-job.result c.before.before.before.before.read-job.ensures c.before.before.enum_told.given.1
+    read_readable _ c.before.before.before.before.read-job.result c.before.before.before.before.read-job.ensures c.before.before.enum_told.given.1
 
 returns : tie.Need-returns
 returns c =

@@ -2,7 +2,7 @@
 -- Assumes nothing.
 use mathlib.Core.Path.{◌≡◌, refl}
 use lib.ListN.{length}
-use Rattle.lists.specs.Meaning.{none, simplicesOf}
+use Rattle.lists.specs.Meaning.{none, simplices_of}
 use Rattle.lists.specs.Items.{length-mapped, counted}
 use Rattle.lists.proofs.Moving.{Moving, distance, nearer, moving-start, moving-on, moving-end, none-there, no_place, moved-simplices}
 use borrow.Author.Rules.{rules}
@@ -20,7 +20,7 @@ least-requires : tie.Need-least-requires invariant-loop decreases-loop
 least-requires c κs = search rules
 
 -- `n` is the number of simplices
-size : (c : tie.After-least invariant-loop decreases-loop) → c.least.result ≡ length (simplicesOf c.before.args.t1)
+size : (c : tie.After-least invariant-loop decreases-loop) → c.least.result ≡ length (simplices_of c.before.args.t1)
 size c = counted _ _ (search (rules, length-mapped)) c.least.ensures
 
 returns : tie.Need-returns invariant-loop decreases-loop
