@@ -16,7 +16,7 @@ use Rattle.format.specs.Marks.{Once, among, named-marks}
 use Rattle.lists.specs.Verdicts.{reading_of, reading-both}
 use Rattle.lists.specs.declared.Verdict.{Verdict}
 use Rattle.lists.specs.declared.Verdict.TheVariants.{Fine, Refused}
-use Rattle.format.specs.Accepted.{record-fits}
+use Rattle.format.proofs.Accepted.{record-fits}
 use Rattle.lists.specs.declared.Marks.{Marks}
 use Rattle.chosen.specs.Meaning.{PositionsRead, WalkRead}
 use Rattle.chosen.specs.declared.ChainRead.{ChainRead}

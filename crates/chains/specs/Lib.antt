@@ -6,13 +6,7 @@ pub mod Chain
 pub mod Sum
 -- the boundary is additive, and the boundary of a boundary is empty
 pub mod Boundary
--- the order is strict and total
-pub mod Order
--- the order compares weights
-pub mod Weight
 -- there is at most one smallest chain, and what makes a chain the smallest
 pub mod Smallest
 -- the same for fillings and for classes
 pub mod Homology
--- a smallest chain exists
-pub mod Search

@@ -10,7 +10,3 @@ pub mod Reducing
 pub mod Insert
 -- the smallest filling and the smallest chain of a class
 pub mod Answer
--- the lemmas by the place of the loop that needs them
-pub mod Loops
--- the loops as functions on chains: the lemmas suffice
-pub mod Run

@@ -11,7 +11,8 @@ use Rattle.format.specs.Simplex.{same, simplices, SimplexSet}
 use Rattle.format.specs.Simplex as format
 use Rattle.format.specs.Reading.{moved, list_of_kind, with_list}
 use Rattle.format.specs.Moves.{map-moved, length_moved}
-use Rattle.format.specs.EditLaws.{list-past, list-other, list-target, list-moved, MovedWithin, replaced-list, kept-list, with-edges, with-triangles, with-tetrahedra}
+use Rattle.format.specs.EditLaws.{MovedWithin}
+use Rattle.format.proofs.EditLaws.{list-past, list-other, list-target, list-moved, replaced-list, kept-list, with-edges, with-triangles, with-tetrahedra}
 use Rattle.lists.specs.Meaning.{none, vertices_of, simplices_of}
 use Rattle.lists.specs.Items.{length-simplices, simplex-at}
 use Rattle.lists.specs.Moved.{MovedList, MovedMarks}

@@ -10,7 +10,8 @@ use Rattle.format.specs.Simplex as format
 use Rattle.format.specs.Reading.{accepted, refused, ◌and_then◌, payload_at, moved, edited, edit_fits, list_of_kind, with_list, read_edits}
 use Rattle.format.specs.Numbers.{header_bytes, edit_kind}
 use Rattle.format.specs.Opened.{opened}
-use Rattle.format.specs.EditLaws.{fits-edit, MovedWithin, accepted-moved, edited-one, edits-ended, edits-refused, edits-full, edits-shape, edits-next}
+use Rattle.format.specs.EditLaws.{MovedWithin}
+use Rattle.format.proofs.EditLaws.{fits-edit, accepted-moved, edited-one, edits-ended, edits-refused, edits-full, edits-shape, edits-next}
 use Rattle.lists.specs.Meaning.{vertices_of}
 use Rattle.lists.specs.Verdicts.{reading_of}
 use Rattle.lists.specs.declared.Marks.{Marks}

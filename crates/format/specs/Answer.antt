@@ -1,6 +1,6 @@
 -- The answer to a job: the smallest filling or the smallest chain of the class, as crate `chains` defines them over
 -- the matrix of the job's lists, or refusal 12 or 13; and its record.
-use Rattle.std.specs.Prelude.{ℕ, suc, ◌+◌, ◌*◌, ◌/◌, ◌%◌, ◌≡◌, Bool, true, false, cond, List, [], ◌∷◌, ◌++◌, length}
+use Rattle.std.specs.Prelude.{ℕ, suc, ◌/◌, ◌%◌, ◌≡◌, cond, List, [], ◌∷◌, ◌++◌, length}
 use Rattle.chains.specs.Chain.{Chain, empty, boundary, Fills, SmallestFilling, SmallestInClass}
 use Rattle.format.specs.Numbers.{answer_kind, refusal_kind, rim_open, no_filling}
 use Rattle.format.specs.Simplex.{Simplex, simplices, lower, columns, chain_in}

@@ -28,7 +28,6 @@ pub mod Rims
 pub mod Bytes
 pub mod Normal
 pub mod RoundTrip
-pub mod Rewritten
 -- sets of simplices as marks by rank
 pub mod Marks
 -- which refusals a file can have, where they point, and what a caller can read off an outcome
@@ -40,5 +39,3 @@ pub mod Members
 pub mod Sets
 pub mod SetLaws
 pub mod SetBoundary
-pub mod SetAnswers
-pub mod Demands

@@ -1,9 +1,8 @@
 -- Laws of looking a simplex up in its list: the test of sameness is equality, a simplex is listed exactly where it has
 -- a rank, and at its rank it stands.
-use Rattle.std.specs.Prelude.{ℕ, zero, suc, ◌+◌, ◌≤◌, ◌<◌, ◌≡◌, refl, Bool, true, false, ◌&&◌, ◌||◌, cond, List, [], ◌∷◌, ◌++◌, map, length, get_or, eqb}
-use Rattle.std.proofs.Common.{sym, ◌∙◌, ap, ap₂, subst, append-nil, arith, eqb-true, eq-eqb}
-use Rattle.std.proofs.Math.Seq.{get_or-append_seam}
-use Rattle.format.specs.Simplex.{Simplex, same, Rank, ranked, unlisted, rank_from, rank, listed, all_listed}
+use Rattle.std.specs.Prelude.{ℕ, suc, ◌+◌, ◌<◌, ◌≡◌, refl, Bool, true, false, ◌&&◌, ◌||◌, cond, List, [], ◌∷◌, length, get_or, eqb}
+use Rattle.std.proofs.Common.{sym, ap₂, subst, arith, eqb-true, eq-eqb}
+use Rattle.format.specs.Simplex.{Simplex, same, Rank, ranked, unlisted, rank_from, rank, listed}
 
 pub true-not-false : {A : Type 0} (b : Bool) → b ≡ true → b ≡ false → A
 true-not-false b p q = let z : ◌≡◌ {A = ℕ} 0 1 = cc in absurd (omega arith)

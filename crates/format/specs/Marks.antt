@@ -1,14 +1,14 @@
 -- A set of simplices as marks, one for each place of a list: what a chain record or a walk marks. Why: no list holds a
 -- simplex twice, so a simplex is named exactly where its own place is.
-use Rattle.std.specs.Prelude.{ℕ, zero, suc, ◌+◌, ◌≤◌, ◌<◌, ◌≡◌, refl, Bool, true, false, not, ◌&&◌, ◌||◌, cond, List, [], ◌∷◌, ◌++◌, map, length, get_or, eqb, leb, ltb}
+use Rattle.std.specs.Prelude.{ℕ, zero, suc, ◌+◌, ◌≤◌, ◌<◌, ◌≡◌, refl, Bool, true, false, not, ◌||◌, cond, List, [], ◌∷◌, length, get_or, eqb, leb, ltb}
 use Rattle.std.proofs.Common.{sym, ◌∙◌, ap, ap₂, subst, arith, eq-eqb, ne_eqb, ltb-true}
 use Rattle.std.proofs.Math.Decide.{ℕ_discrete}
 use Rattle.format.specs.Numbers.{Limits, chain_item}
 use Rattle.format.specs.Simplex.{Simplex, Complex, same, rank, ranked, listed, all_below, simplices, vertex_list}
 use Rattle.format.specs.Reading.{Reading, accepted, refused, refuse_if, ◌and_then◌, rising_below, named, read_steps}
-use Rattle.format.specs.Listed.{true-not-false, and-true, same_refl, same-equal, rank-stands}
+use Rattle.format.specs.Listed.{and-true, same_refl, same-equal, rank-stands}
 use Rattle.format.specs.Lookup.{differ_same}
-use Rattle.format.specs.Sound.{copies, copies-append, unlisted-copies, one_place, SoundComplex}
+use Rattle.format.specs.Sound.{copies, copies-append, one_place, SoundComplex}
 
 -- CHECKS IN A ROW. A reading that hands back what it was given is its checks, and then what follows.
 unfoldable pub check_positions : {A : Type 0} (count at least : ℕ) → List ℕ → Reading A → Reading A

@@ -1,13 +1,13 @@
 -- Laws of the matrix that a complex gives: its columns hold ranks of the rows' list only, and on a closed complex the
 -- boundary of a boundary is empty. Why the latter: leaving out two vertices in either order gives the same simplex, so
 -- in the sum every simplex stands twice.
-use Rattle.std.specs.Prelude.{ℕ, zero, suc, ◌≤◌, ◌<◌, ◌≡◌, Bool, true, false, List, [], ◌∷◌, ◌++◌, map, length, get_or}
+use Rattle.std.specs.Prelude.{ℕ, ◌<◌, ◌≡◌, true, false, List, [], ◌∷◌, ◌++◌, map, length, get_or}
 use Rattle.std.proofs.Math.Path.{refl}
-use Rattle.std.proofs.Common.{sym, ◌∙◌, ap, ap₂, subst, arith}
+use Rattle.std.proofs.Common.{sym, ◌∙◌, ap, ap₂, arith}
 use Rattle.std.proofs.lemmas.List.{length-map}
 use Rattle.std.proofs.Math.ListN.{get_or-eq_default}
-use Rattle.chains.specs.Chain.{Chain, ◌⊕◌, empty, unit, Under, boundary}
-use Rattle.chains.specs.Sum.{sum-assoc, sum_comm, sum_self, sum-empty, empty-sum, sum-swap, under-empty, under-sum}
+use Rattle.chains.specs.Chain.{Chain, ◌⊕◌, empty, Under, boundary}
+use Rattle.chains.specs.Sum.{sum-assoc, sum_self, sum-empty, empty-sum, sum-swap, under-empty, under-sum}
 use Rattle.chains.specs.Boundary.{under-unit, boundary-sum, boundary-empty, boundary-unit, boundary-boundary}
 use Rattle.format.specs.Simplex.{Simplex, SimplexSet, facets, Rank, ranked, unlisted, rank, listed, all_listed, at_rank, sum_over, simplex_boundary, columns, chain_in}
 use Rattle.format.specs.Listed.{true-not-false, and-true, rank-stands, is_ranked, listed-ranked}

@@ -1,13 +1,13 @@
 -- Laws of an answer's members: they are listed, so they are sound and few.
-use Rattle.std.specs.Prelude.{ℕ, zero, suc, ◌+◌, ◌*◌, ◌≤◌, ◌<◌, ◌≡◌, refl, Bool, true, false, ◌&&◌, ◌||◌, cond, List, [], ◌∷◌, ◌++◌, length, leb, ltb}
-use Rattle.std.proofs.Common.{sym, ◌∙◌, ap, subst, arith, length-append, lt-ltb, le-leb}
+use Rattle.std.specs.Prelude.{ℕ, zero, suc, ◌+◌, ◌*◌, ◌≤◌, ◌≡◌, refl, Bool, true, false, ◌||◌, cond, List, [], ◌∷◌, length}
+use Rattle.std.proofs.Common.{sym, subst, arith, length-append, lt-ltb, le-leb}
 use Rattle.std.proofs.Math.Bool.{or-true}
 use Rattle.chains.specs.Chain.{Chain}
 use Rattle.format.specs.Numbers.{Limits}
 use Rattle.format.specs.Simplex.{Simplex, Complex, sound_simplex, rising_from, all_below, same, listed, simplices, vertex_list}
 use Rattle.format.specs.Answer.{members_from, vertices_of}
 use Rattle.format.specs.Listed.{true-not-false, same_refl}
-use Rattle.format.specs.Sound.{copies, unlisted-copies, SoundComplex}
+use Rattle.format.specs.Sound.{copies, SoundComplex}
 use Rattle.format.specs.Marks.{vertex-below}
 
 -- a member is listed

@@ -1,5 +1,5 @@
 -- Laws of a record's first checks, 2 cut and 3 kind, and then 4 shape: what each outcome of the header comes to.
-use Rattle.std.specs.Prelude.{ℕ, ◌+◌, ◌≤◌, ◌<◌, ◌≡◌, refl, Bool, true, false, not, cond, List, length, take, drop, eqb, leb, ltb}
+use Rattle.std.specs.Prelude.{ℕ, ◌+◌, ◌≤◌, ◌≡◌, refl, Bool, true, false, not, cond, List, length, drop, eqb, leb, ltb}
 use Rattle.std.proofs.Common.{sym, ◌∙◌, ap, subst, arith, length-take, length-drop, eqb-true, ltb-false}
 use Rattle.format.specs.Numbers.{cut, wrong_kind, shape, header_bytes}
 use Rattle.format.specs.Reading.{Reading, accepted, refused, refuse_if, ◌and_then◌, Header, ended, broken, whole, header_at, payload_at, u16_at, u32_at, Record, record_from, record_at}

@@ -1,15 +1,15 @@
 -- What is known of every job that was read: its lists hold sound simplices, none twice, with their facets listed, and A
 -- is a set of listed simplices. Why: reading checks each item, and an edit only changes the order of one list.
-use Rattle.std.specs.Prelude.{ℕ, zero, suc, pred, ◌+◌, ◌*◌, ◌/◌, ◌%◌, ◌≤◌, ◌<◌, ◌≡◌, refl, Bool, true, false, not, ◌&&◌, ◌||◌, cond, List, [], ◌∷◌, ◌++◌, map, ◌⊎◌, length, get_or, take, drop, eqb, leb, ltb}
-use Rattle.std.proofs.Common.{sym, ◌∙◌, ap, ap₂, subst, append_assoc, append-nil, inl, inr, arith, le_of_suc-le-suc, not-suc-le-zero, take-append-drop, length-take, length-drop, lit≤, eqb-true, leb-true, leb-false, ltb-true, ltb-false}
+use Rattle.std.specs.Prelude.{ℕ, zero, suc, ◌+◌, ◌*◌, ◌≤◌, ◌<◌, ◌≡◌, refl, Bool, true, false, not, ◌||◌, cond, List, [], ◌∷◌, ◌++◌, ◌⊎◌, length, get_or, take, drop}
+use Rattle.std.proofs.Common.{sym, ◌∙◌, ap, subst, inl, inr, arith, le_of_suc-le-suc, not-suc-le-zero, take-append-drop, lit≤}
 use Rattle.std.proofs.Math.Bool.{or-true, or-false}
-use Rattle.std.proofs.lemmas.Bool.{not-true, not-false}
+use Rattle.std.proofs.lemmas.Bool.{not-false}
 use Rattle.format.specs.Numbers.{Limits, small, edges_kind, triangles_kind, tetrahedra_kind, vertex, twice, face}
-use Rattle.format.specs.Simplex.{Simplex, SimplexSet, Complex, sound_simplex, facets, same, listed, all_listed, simplices, vertex_list}
-use Rattle.format.specs.Reading.{Reading, accepted, refused, refuse_if, ◌and_then◌, Head, Question, Record, Listing, Chosen, Job, Header, record_at, record_from, header_at, read_items, items, items_of, owed_facets, read_list, list_fits, moved, without, with_list, list_of_kind, edited, read_edits, read_head, head_of, head_sound, dimension_fits, chain_dimension, read_chain, chosen_by, rising_below, positions_of, named, read_steps, steps, walk_chain, after_lists, after_head, reading}
-use Rattle.format.specs.Listed.{true-not-false, and-true, same_refl, same-equal}
+use Rattle.format.specs.Simplex.{Simplex, SimplexSet, Complex, sound_simplex, same, listed, all_listed, simplices}
+use Rattle.format.specs.Reading.{Reading, accepted, refused, refuse_if, ◌and_then◌, Job, read_items, owed_facets, moved, without, dimension_fits, chain_dimension}
+use Rattle.format.specs.Listed.{true-not-false, same_refl, same-equal}
 use Rattle.format.specs.Lookup.{listed-append}
-use Rattle.format.specs.Moves.{split_one, length_moved, listed-moved}
+use Rattle.format.specs.Moves.{split_one, listed-moved}
 
 -- ACCEPTED IN PARTS: a chain of readings is accepted only if each part is.
 pub not-refused : {A : Type 0} (t : Bool) (n p : ℕ) (next : Reading A) (a : A) → refuse_if t n p next ≡ accepted a → (t ≡ false) × (next ≡ accepted a)

@@ -1,9 +1,9 @@
 -- No second outcome meets a promise. Why: reading is a function, and a job has at most one smallest filling and at
 -- most one smallest chain in a class; the cases of an answer exclude one another.
-use Rattle.std.specs.Prelude.{ℕ, ◌≤◌, ◌<◌, ◌≡◌, refl, ◌⊎◌, List, length}
+use Rattle.std.specs.Prelude.{ℕ, ◌≤◌, ◌<◌, ◌≡◌, ◌⊎◌, List, length}
 use Rattle.std.proofs.Common.{sym, ◌∙◌, ap, inl, inr, arith}
-use Rattle.chains.specs.Chain.{Chain, empty, Fills, SmallestFilling, InClass}
-use Rattle.chains.specs.Smallest.{smallest-unique}
+use Rattle.chains.specs.Chain.{Fills, InClass}
+use Rattle.chains.proofs.Smallest.{smallest-unique}
 use Rattle.format.specs.Numbers.{Limits}
 use Rattle.format.specs.Reading.{Job, Question, fill, class, Reading, accepted, refused, reading}
 use Rattle.format.specs.Answer.{matrix, rows, cols, asked_chain, FillAnswer, open_rim, unfilled, patch, ClassAnswer, AnswerTo, Answered, chain_record}

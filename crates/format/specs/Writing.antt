@@ -1,7 +1,6 @@
 -- The normal form: "kinds 1 to 5 only: lists as they stand after the edits, A as positions in them".
 use Rattle.std.specs.Prelude.{ℕ, suc, Bool, true, false, List, [], ◌∷◌, ◌++◌, map}
 use Rattle.format.specs.Numbers.{head_kind, edges_kind, triangles_kind, tetrahedra_kind, chain_kind}
-use Rattle.format.specs.Simplex.{SimplexSet, Simplex}
 use Rattle.format.specs.Reading.{Job, question_byte}
 use Rattle.format.specs.Answer.{u16_bytes, record_of, vertices_of, rows}
 

@@ -15,7 +15,7 @@ use Rattle.format.specs.Reading.{Reading, ◌and_then◌, accepted, refused, Lis
 use Rattle.format.specs.Reading as reader
 use Rattle.format.specs.Opened.{opened, record-opened, opened_inside, payload-long}
 use Rattle.format.specs.Sound.{SoundComplex}
-use Rattle.format.specs.Accepted.{head-sound, list-sound}
+use Rattle.format.proofs.Accepted.{head-sound, list-sound}
 use Rattle.format.specs.Marks.{simplices-once}
 use Rattle.format.specs.Answer.{rows}
 use Rattle.lists.specs.Verdicts.{reading_of, reading-then, told}

@@ -4,8 +4,8 @@ use Rattle.std.proofs.Common.{sym, ◌∙◌, ap, arith}
 use Rattle.format.specs.Numbers.{small}
 use Rattle.format.specs.Simplex.{Complex}
 use Rattle.format.specs.Reading.{Reading, Job, ◌and_then◌, reading, accepted, refused, question_of}
-use Rattle.format.specs.EditLaws.{edits-ended}
-use Rattle.format.specs.Accepted.{accepted-sound}
+use Rattle.format.proofs.EditLaws.{edits-ended}
+use Rattle.format.proofs.Accepted.{accepted-sound}
 use Rattle.lists.specs.Verdicts.{reading_of}
 use Rattle.lists.specs.declared.Verdict.{Verdict}
 use Rattle.lists.specs.declared.Verdict.TheVariants.{Fine, Refused}

@@ -9,8 +9,8 @@ use Rattle.format.specs.Simplex.{SimplexSet, simplices}
 use Rattle.format.specs.Simplex as format
 use Rattle.format.specs.Reading.{accepted, read_edits}
 use Rattle.format.specs.Sound.{SoundComplex}
-use Rattle.format.specs.Accepted.{edits-keep, edits-vertices, few-reordered, complex-reordered}
-use Rattle.format.specs.EditLaws.{edits-ended}
+use Rattle.format.proofs.Accepted.{edits-keep, edits-vertices, few-reordered, complex-reordered}
+use Rattle.format.proofs.EditLaws.{edits-ended}
 use Rattle.lists.specs.Verdicts.{reading_of}
 use Rattle.lists.specs.declared.Marks.{Marks}
 use Rattle.lists.specs.declared.Verdict.{Verdict}

@@ -5,9 +5,9 @@ use Rattle.std.proofs.Common.{sym, ◌∙◌, ap, ap₂, subst, subst₂, arith,
 use Rattle.std.proofs.lemmas.Bool.{false≢true}
 use Rattle.std.proofs.Math.Decide.{ℕ_discrete}
 use Rattle.chains.specs.Chain.{Chain, empty, unit, only, Under, SmallestInClass}
-use Rattle.echelon.specs.Loops.{echelon-start, Reducing, reducing-start, reducing-skip, reducing-add}
-use Rattle.echelon.specs.Loops.{Put, insert-dropped, insert-kept, fill-found, fill_none}
-use Rattle.echelon.specs.Loops.{Classing, class-start, class-skip, class-vacant, class-add, class-done}
+use Rattle.echelon.proofs.Loops.{echelon-start, Reducing, reducing-start, reducing-skip, reducing-add}
+use Rattle.echelon.proofs.Loops.{Put, insert-dropped, insert-kept, fill-found, fill_none}
+use Rattle.echelon.proofs.Loops.{Classing, class-start, class-skip, class-vacant, class-add, class-done}
 use Rattle.columns.specs.Slot.{room_of, chain_r, chain_v, slot, taken_at, store_slot}
 use Rattle.columns.specs.SlotLaws.{slot-stored, slot_kept}
 use Rattle.columns.specs.Reduce.{red_bytes, Settled, settled, Settles, Inserts, stored_at, taken_with, Ends}

@@ -4,7 +4,7 @@ use Prim.Native.Nat.{◌+◌}
 use native.Mathlib.Omega.{arith}
 use lib.ListN.{length}
 use lib.Dec.{eqb}
-use Rattle.format.specs.EditLaws.{low-kind, high-kind, fits-length}
+use Rattle.format.proofs.EditLaws.{low-kind, high-kind, fits-length}
 use borrow.Author.Rules.{rules}
 use Rattle.edits.proofs.edit_fits.Statement.{statement}
 use Rattle.edits.proofs.edit_fits.Tie as tie

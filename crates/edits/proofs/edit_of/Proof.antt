@@ -4,7 +4,8 @@ use mathlib.Core.Path.{◌∙◌}
 use native.Mathlib.Omega.{arith}
 use lib.ListN.{length, drop, length-drop}
 use lib.Seq.{take_all}
-use Rattle.format.specs.EditLaws.{FitsEdit, fits-edit}
+use Rattle.format.specs.EditLaws.{FitsEdit}
+use Rattle.format.proofs.EditLaws.{fits-edit}
 use borrow.Author.Rules.{rules}
 use Rattle.edits.proofs.edit_of.Statement.{statement}
 use Rattle.edits.proofs.edit_of.Tie as tie

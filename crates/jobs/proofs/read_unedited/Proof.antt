@@ -9,7 +9,7 @@ use lib.Dec.{eqb}
 use Rattle.format.specs.Numbers.{small, head_kind}
 use Rattle.format.specs.Reading.{accepted, read_head, payload_at}
 use Rattle.format.specs.Opened.{opened}
-use Rattle.format.specs.Places.{too_long_lem}
+use Rattle.format.proofs.Places.{too_long_lem}
 use Rattle.lists.specs.Verdicts.{told}
 use Rattle.heads.specs.Meaning.{head_reading}
 use Rattle.stages.specs.Meaning.{opened_of}

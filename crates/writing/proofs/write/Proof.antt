@@ -2,7 +2,7 @@
 -- written as its normal form.
 use native.Mathlib.Omega.{arith}
 use Rattle.format.specs.Numbers.{small}
-use Rattle.format.specs.Places.{reading-refused}
+use Rattle.format.proofs.Places.{reading-refused}
 use Rattle.jobs.specs.Known.{read_readable}
 use Rattle.writing.proofs.Laws.{read-refused, write-refused, write-accepted}
 use borrow.Author.Rules.{rules}

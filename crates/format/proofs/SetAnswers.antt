@@ -11,8 +11,10 @@ use Rattle.format.specs.Matrix.{chain-under}
 use Rattle.format.specs.Sound.{SoundJob}
 use Rattle.format.specs.Rims.{filled-closed}
 use Rattle.format.specs.Sets.{no_simplex, ◌△◌, boundary_set, FillsSet, InClassSet, RimClosed, FillSetAnswer, refused_open, refused_unfilled, filled_by, ClassSetAnswer}
-use Rattle.format.specs.SetLaws.{set_of, set-within, chain-of-set, same-sets, none-chain, none_within, chain-sum, sum-within, record_same, record-of-set, smallest-set, smallest-chain}
-use Rattle.format.specs.SetBoundary.{Layers, boundary-chain, boundary-within, sound-layers}
+use Rattle.format.specs.SetLaws.{set_of}
+use Rattle.format.proofs.SetLaws.{set-within, chain-of-set, same-sets, none-chain, none_within, chain-sum, sum-within, record_same, record-of-set, smallest-set, smallest-chain}
+use Rattle.format.specs.SetBoundary.{Layers}
+use Rattle.format.proofs.SetBoundary.{boundary-chain, boundary-within, sound-layers}
 
 module _ (L : Limits) (j : Job) (sound : SoundJob L j) where
   job-layers : Layers (rows j) (cols j)

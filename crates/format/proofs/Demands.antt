@@ -10,12 +10,12 @@ use Rattle.format.specs.Answer.{refusal_record, row_dimension, rows, cols, Answe
 use Rattle.format.specs.Listed.{and-true}
 use Rattle.format.specs.Sound.{Within, SoundJob}
 use Rattle.format.specs.Outcome.{answer_of}
-use Rattle.format.specs.Accepted.{accepted-sound}
+use Rattle.format.proofs.Accepted.{accepted-sound}
 use Rattle.format.specs.Unique.{answer-unique}
 use Rattle.format.specs.Sets.{SmallestSet, set_record, IsRefusal, FillsSet, InClassSet, RimClosed, NoneFills, FillSetAnswer, refused_open, refused_unfilled, filled_by, ClassSetAnswer, SetAnswerTo}
-use Rattle.format.specs.SetLaws.{record-tells}
-use Rattle.format.specs.SetBoundary.{simplices-wide}
-use Rattle.format.specs.SetAnswers.{fillable-closed, fill-by-sets, fill-by-ranks, class-by-sets, class-by-ranks}
+use Rattle.format.proofs.SetLaws.{record-tells}
+use Rattle.format.proofs.SetBoundary.{simplices-wide}
+use Rattle.format.proofs.SetAnswers.{fillable-closed, fill-by-sets, fill-by-ranks, class-by-sets, class-by-ranks}
 
 -- THE KINDS differ, so a set's record is no refusal's; and the two refusals' numbers differ.
 set-not-refused : (answer : List ℕ) (d : ℕ) (l : List Simplex) (S : SimplexSet) → answer ≡ set_record d l S → IsRefusal answer → ⊥

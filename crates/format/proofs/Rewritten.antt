@@ -6,7 +6,7 @@ use Rattle.format.specs.Reading.{Job, reading, accepted}
 use Rattle.format.specs.Answer.{Answered}
 use Rattle.format.specs.Writing.{normal_form}
 use Rattle.format.specs.Sound.{Consistent}
-use Rattle.format.specs.Accepted.{accepted-sound}
+use Rattle.format.proofs.Accepted.{accepted-sound}
 use Rattle.format.specs.RoundTrip.{round_trip, normal-fits, same-normal, normal-of-normal, same_answer}
 
 module _ (L : Limits) (consistent : Consistent L) (b : List ℕ) (j : Job) (read : reading L b ≡ accepted j) where

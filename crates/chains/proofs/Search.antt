@@ -3,26 +3,11 @@
 -- exists where any filling does, it can be told whether one does, and every class has a smallest chain.
 use Rattle.std.specs.Prelude.{ℕ, zero, suc, ◌<◌, ◌≡◌, refl, Bool, true, false, ◌⊎◌, ◌↔◌}
 use Rattle.std.proofs.Common.{sym, ◌∙◌, ap, subst, inl, inr, arith}
-use Rattle.chains.specs.Chain.{
-  Chain,
-  differ,
-  ◌⊕◌,
-  empty,
-  unit,
-  Under,
-  Top,
-  Smaller,
-  Smallest,
-  boundary,
-  Fills,
-  InClass,
-  SmallestFilling,
-  SmallestInClass,
-}
+use Rattle.chains.specs.Chain.{Chain, differ, ◌⊕◌, empty, unit, Under, Top, Smaller, Smallest, boundary, Fills, InClass, SmallestFilling, SmallestInClass}
 use Rattle.chains.specs.Sum.{differ-false, sum-assoc, sum_comm, sum_self, sum_twice, under-empty, under-sum, under_more}
 use Rattle.chains.specs.Boundary.{unit-here, unit-else, under-unit, boundary-empty, boundary-under}
-use Rattle.chains.specs.Order.{top-under, under-zero, under-less, same_or_not, smaller-at}
-use Rattle.chains.specs.Smallest.{smallest-same}
+use Rattle.chains.proofs.Order.{top-under, under-zero, under-less, same_or_not, smaller-at}
+use Rattle.chains.proofs.Smallest.{smallest-same}
 
 -- The outcome of a search: the smallest chain with the property, or that no chain has it.
 abbrev pub Found : (Chain → Type 0) → Type 0

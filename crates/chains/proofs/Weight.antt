@@ -4,7 +4,7 @@ use Rattle.std.specs.Prelude.{ℕ, zero, suc, ◌+◌, ◌^◌, ◌<◌, ◌≡�
 use Rattle.std.proofs.Common.{sym, ◌∙◌, ap, subst, inl, inr, arith, pow-suc, add-zero}
 use Rattle.std.proofs.Math.Decide.{dec_lt}
 use Rattle.chains.specs.Chain.{Chain, Under, Smaller, weight}
-use Rattle.chains.specs.Order.{smaller-out, smaller-above, smaller-total, top-under}
+use Rattle.chains.proofs.Order.{smaller-out, smaller-above, smaller-total, top-under}
 use Rattle.chains.specs.Sum.{under-sum}
 
 pub weight-in : (n : ℕ) (c : Chain) → c n ≡ true → weight (suc n) c ≡ weight n c + 2 ^ n

@@ -4,12 +4,15 @@ use Rattle.std.specs.Prelude.{ℕ, zero, suc, ◌≤◌, ◌<◌, ◌≡◌, ref
 use Rattle.std.proofs.Common.{ap, inl, inr, arith}
 use Rattle.chains.specs.Chain.{Chain, ◌⊕◌, empty, unit, Under, Fills, SmallestInClass}
 use Rattle.chains.specs.Boundary.{unit-here, unit-else}
-use Rattle.chains.specs.Search.{Found}
+use Rattle.chains.proofs.Search.{Found}
 use Rattle.echelon.specs.Reduce.{reduce}
-use Rattle.echelon.specs.Echelon.{Echelon, echelon-start}
-use Rattle.echelon.specs.Reducing.{Inserting, Filling, reducing-start, reducing-skip, reducing-add}
-use Rattle.echelon.specs.Insert.{Put, insert-dropped, insert-kept}
-use Rattle.echelon.specs.Answer.{fill-found, fill_none, class-found}
+use Rattle.echelon.specs.Echelon.{Echelon}
+use Rattle.echelon.proofs.Echelon.{echelon-start}
+use Rattle.echelon.specs.Reducing.{Inserting, Filling}
+use Rattle.echelon.proofs.Reducing.{reducing-start, reducing-skip, reducing-add}
+use Rattle.echelon.specs.Insert.{Put}
+use Rattle.echelon.proofs.Insert.{insert-dropped, insert-kept}
+use Rattle.echelon.proofs.Answer.{fill-found, fill_none, class-found}
 
 -- the slots R with c put into slot r
 abbrev pub put : (ℕ → Chain) → ℕ → Chain → ℕ → Chain

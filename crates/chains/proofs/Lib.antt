@@ -1,0 +1,10 @@
+-- the order is strict and total
+pub mod Order
+-- the order compares weights
+pub mod Weight
+-- there is at most one smallest chain, and what makes a chain the smallest
+pub mod Smallest
+-- the same for fillings and for classes
+pub mod Homology
+-- a smallest chain exists
+pub mod Search
