@@ -1,5 +1,6 @@
 // The answer program: a job on standard input, its answer record on standard output. One byte more than a job may have
 // is read, so that a job that is too long is seen to be.
+#![tactic(auto)]
 use libc::{STDIN_FILENO, STDOUT_FILENO};
 
 fn main() {

@@ -1,6 +1,7 @@
 // The job reader: every byte string becomes a job or a numbered refusal with its place. Each stage hands on to the next, and
 // the lists stay where they were read: as numbers in lent arrays, of edges (e), triangles (t) and tetrahedra (s), with the sides
 // of the latter two.
+#![tactic(auto)]
 ghost use Rattle.std.specs.Prelude.{◌≡◌, List, ◌≤◌, length};
 ghost use Rattle.format.specs.Numbers.{small};
 ghost use Rattle.format.specs.Simplex.{Simplex};

@@ -1,6 +1,7 @@
 // The lists of a complex in lent arrays: each list is the numbers of its simplices, by rank, and triangles and tetrahedra have
 // the ranks of their facets beside them, their sides. A complex by value is made of them for the edits, and for whoever writes a
 // job.
+#![tactic(auto)]
 ghost use Rattle.std.specs.Prelude.{◌≡◌, length};
 ghost use Rattle.format.specs.Simplex.{simplices};
 ghost use Rattle.format.specs.Simplex as format;

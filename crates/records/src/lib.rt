@@ -1,5 +1,7 @@
 // The record reader: little-endian numbers, a record's header, and its payload as that part of the caller's bytes.
 // No call asks anything of its caller: past the end of the bytes a number reads as 0 and a payload is what is left.
+#![tactic(auto)]
+
 ghost use Rattle.std.specs.Prelude.{◌≡◌, get_or};
 ghost use Rattle.format.specs.Reading.{u16_at, u32_at, header_at, payload_at};
 ghost use Rattle.records.specs.Meaning.{header_of, Reads};

@@ -1,6 +1,7 @@
 // Reads frames from standard input, each a four-byte length and a job file of that length, and writes a line for each:
 // 'ok', or 'refused' with the refusal's number and place. It ends with the input, or with the line 'bad frame' where a
 // frame is cut or longer than the buffer.
+#![tactic(auto)]
 use lists::Verdict;
 
 // Writes the line of one verdict.

@@ -1,4 +1,5 @@
 // The record stages of a job: a record is opened (2 cut, 3 kind), its shape is checked (4), and then its items.
+#![tactic(auto)]
 ghost use Rattle.std.specs.Prelude.{◌≡◌, List, ℕ, ◌+◌, ◌*◌, ◌≤◌, ◌<◌, eqb, length};
 ghost use Rattle.format.specs.Opened.{opened};
 ghost use Rattle.keys.specs.Chained.{Chained};
