@@ -3,6 +3,7 @@
 // hold a column stands in `taken`: a slot that is not taken is not read, whatever its bytes are, so
 // the memory need not be touched before the first column.
 #![tactic(auto)]
+
 ghost use Rattle.std.specs.Prelude.{◌≡◌, ◌+◌, ◌*◌, ◌≤◌, ◌<◌, true, length, set, take, replicate};
 ghost use Rattle.columns.specs.Column.{bit, bit_at, chain_of, xor_bytes, flipped, cleared_front};
 ghost use Rattle.columns.specs.Slot.{room_of, slot, store_slot};

@@ -1,5 +1,6 @@
 // The head of a job: the question, the answer's dimension and the number of vertices.
 #![tactic(auto)]
+
 ghost use Rattle.std.specs.Prelude.{◌≡◌, ◌&&◌, ◌||◌, eqb, leb, ◌<◌};
 ghost use Rattle.format.specs.Reading.{dimension_fits, question_of};
 ghost use Rattle.heads.specs.Meaning.{HeadKnown};

@@ -1,5 +1,6 @@
 // Keys in rank order, and the look-up of a key through the keys of its bucket.
 #![tactic(auto)]
+
 ghost use Rattle.std.specs.Prelude.{◌≡◌, ◌<◌, eqb, length};
 ghost use Rattle.keys.specs.Chained.{Chained, Linked, last_below};
 

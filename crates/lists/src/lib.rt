@@ -1,5 +1,6 @@
 // Simplices, the lists of a complex, chains as marks by rank, and the verdicts on a job.
 #![tactic(auto)]
+
 ghost use Rattle.std.specs.Prelude.{◌≡◌, ◌+◌, ◌≤◌, min, false, [], length, take, drop, get_or, replicate};
 ghost use Rattle.format.specs.Simplex as format;
 ghost use Rattle.lists.specs.Meaning.{vertices_of, simplices_of};
