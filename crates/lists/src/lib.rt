@@ -7,7 +7,7 @@ ghost use Rattle.lists.specs.Meaning.{vertices_of, simplices_of};
 ghost use Rattle.lists.specs.Moved.{MovedList, MovedMarks, Toward};
 
 // A simplex: its vertices stand first in the array, one more of them than the dimension.
-#[derive(Drop)]
+#[derive(Clone, Copy)]
 pub struct Simplex {
     pub vertices: [u16; 4],
     pub dim: u16,
@@ -27,14 +27,14 @@ pub struct Marks {
 }
 
 // Where a simplex stands in a list, as the look-up answers (crate `lookup`).
-#[derive(Drop)]
+#[derive(Clone, Copy)]
 pub enum Found {
     At(usize),
     Missing,
 }
 
 // What a check of the job comes to: nothing to refuse, or a refusal's number and place.
-#[derive(Drop)]
+#[derive(Clone, Copy)]
 pub enum Verdict {
     Fine,
     Refused(u16, usize),

@@ -2,6 +2,7 @@
 // chain and finding the smallest of a class come to, said of chains (specs/Slots.antt). With `taken`
 // all false no column is in the slots, whatever the memory holds: a slot that is not taken is not read.
 #![tactic(auto)]
+
 ghost use Rattle.std.specs.Prelude.{◌≡◌, ℕ, ◌*◌, ◌≤◌, length};
 ghost use Rattle.chains.specs.Chain.{Under};
 ghost use Rattle.columns.specs.Slot.{room_of, chain_r};
