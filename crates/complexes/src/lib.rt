@@ -1,5 +1,6 @@
 // A complex: its number of vertices and its three lists, by value; and a job, which asks a question of one.
 #![tactic(auto)]
+
 ghost use Rattle.std.specs.Prelude.{◌≡◌, length, ◌≤◌};
 ghost use Rattle.lists.specs.Meaning.{simplices_of};
 ghost use Rattle.complexes.specs.Meaning.{list_of};

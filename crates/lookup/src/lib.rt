@@ -1,6 +1,7 @@
 // The look-up of a simplex in its list, the one that all callers share: the simplices' own numbers are chained by buckets
 // (crate `keys`), so that neither a list is gone through nor copied.
 #![tactic(auto)]
+
 ghost use Rattle.std.specs.Prelude.{◌≡◌, List, ◌-◌, ◌≤◌, ◌<◌, length, get_or};
 ghost use Rattle.format.specs.Simplex.{rank};
 ghost use Rattle.format.specs.Simplex as format;
