@@ -1,5 +1,6 @@
 // The chain that a job asks about: a chain record's positions, or a walk's steps, become marks by rank.
 #![tactic(auto)]
+
 ghost use Rattle.std.specs.Prelude.{◌≡◌, ◌≤◌, ◌<◌, length};
 ghost use Rattle.format.specs.Reading.{edge_between};
 ghost use Rattle.lists.specs.Meaning.{vertices_of};

@@ -1,6 +1,7 @@
 // The reader of a list's items: one function for edges, triangles and tetrahedra, which differ in the number of vertices. An item
 // is its number, which is looked up, so that the lists are neither gone through nor copied.
 #![tactic(auto)]
+
 ghost use Rattle.std.specs.Prelude.{◌≡◌, List, ◌+◌, ◌*◌, ◌≤◌, ◌<◌, length, get_or, take, drop};
 ghost use Rattle.format.specs.Simplex.{sound_simplex, listed};
 ghost use Rattle.format.specs.Simplex as format;

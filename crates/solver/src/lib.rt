@@ -5,6 +5,7 @@
 // at the end. Which slots hold a column stands in `taken`, all false at first: a slot that is not taken is
 // not read, whatever its bytes are, so the work memory is not touched before the first column.
 #![tactic(auto)]
+
 ghost use Rattle.std.specs.Prelude.{◌≡◌, true, false, List, ◌*◌, ◌≤◌, ◌<◌, max, length, replicate};
 ghost use Rattle.columns.specs.Slot.{room_of, chain_r, chain_v};
 ghost use Rattle.format.specs.Simplex.{Simplex, rising_from};
