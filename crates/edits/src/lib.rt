@@ -1,6 +1,7 @@
 // The edits of a job: each takes one simplex from its seen position to a new one, and A's marks go along with it. Reading
 // an edit and judging it take numbers and a simplex or two, so that no list travels but the one that an edit moves.
 #![tactic(auto)]
+
 ghost use Rattle.std.specs.Prelude.{◌≡◌, true, ◌<◌, length};
 ghost use Rattle.format.specs.Reading.{edit_fits};
 ghost use Rattle.lists.specs.declared.Verdict.TheVariants.{Refused};

@@ -1,5 +1,6 @@
 // The job writer: puts the normal form of a job into lent bytes, piece behind piece.
 #![tactic(auto)]
+
 ghost use Rattle.std.specs.Prelude.{◌≡◌, ◌+◌, ◌≤◌, length, take};
 ghost use Rattle.format.specs.Answer.{u16_bytes, record_of};
 ghost use Rattle.format.specs.Writing.{places_from};

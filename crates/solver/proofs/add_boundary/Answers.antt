@@ -25,18 +25,17 @@ module _ (p : After-flip) where
 module _ (p : After-flip-2) where
   two : Added p.before.before.before.before.before.before.before.before p.flip-2.new.col (p.args.size - 1 - 1) (p.args.sides / 65536 / 65536)
   two rows s sized some sided =
-      adding-on (one p.before.before.before.before.before rows s sized some sided) (omega (arith, p.if-size-le1.left)) p.flip-2.ensures
+      adding-on (one p.before.before.before.before.before rows s sized some sided) (omega (arith, p.if-size-le1.false)) p.flip-2.ensures
 
 module _ (p : After-flip-3) where
   three : Added p.before.before.before.before.before.before.before.before.before.before.before.before.before p.flip-3.new.col (p.args.size - 1 - 1 - 1) (p.args.sides / 65536 / 65536 / 65536)
   three rows s sized some sided =
-      adding-on (two p.before.before.before.before.before rows s sized some sided) (omega (arith, p.if-size-le2.left)) p.flip-3.ensures
+      adding-on (two p.before.before.before.before.before rows s sized some sided) (omega (arith, p.if-size-le2.false)) p.flip-3.ensures
 
 pub flip-requires : goal.flip-requires
 flip-requires c =
-    let w = c.requires in
-    let a = adding-start w.rows w.simplex c.args.cur.now c.args.size c.args.sides w.sized w.sided in
-    omega (arith, rank_below a w.some, w.few)
+    let a = adding-start c.requires.rows c.requires.simplex c.args.cur.now c.args.size c.args.sides c.requires.sized c.requires.sided in
+    omega (arith, rank_below a c.requires.some, c.requires.few)
 
 pub returns-then-size-le1 : goal.returns-then-size-le1
 returns-then-size-le1 c = λ rows s sized some most sided.
@@ -44,9 +43,8 @@ returns-then-size-le1 c = λ rows s sized some most sided.
 
 pub flip-requires-2 : goal.flip-requires-2
 flip-requires-2 c =
-    let w = c.requires in
-    let a = one (goal.at.flip-requires-2 c).After-flip w.rows w.simplex w.sized w.some w.sided in
-    omega (arith, rank_below a (omega (arith, c.if-size-le1.false)), w.few, a.long)
+    let a = one (goal.at.flip-requires-2 c).After-flip c.requires.rows c.requires.simplex c.requires.sized c.requires.some c.requires.sided in
+    omega (arith, rank_below a (omega (arith, c.if-size-le1.false)), c.requires.few, a.long)
 
 pub returns-then-size-le2 : goal.returns-then-size-le2
 returns-then-size-le2 c = λ rows s sized some most sided.
@@ -54,9 +52,8 @@ returns-then-size-le2 c = λ rows s sized some most sided.
 
 pub flip-requires-3 : goal.flip-requires-3
 flip-requires-3 c =
-    let w = c.requires in
-    let a = two (goal.at.flip-requires-3 c).After-flip-2 w.rows w.simplex w.sized w.some w.sided in
-    omega (arith, rank_below a (omega (arith, c.if-size-le2.false)), w.few, a.long)
+    let a = two (goal.at.flip-requires-3 c).After-flip-2 c.requires.rows c.requires.simplex c.requires.sized c.requires.some c.requires.sided in
+    omega (arith, rank_below a (omega (arith, c.if-size-le2.false)), c.requires.few, a.long)
 
 pub returns-then-size-le3 : goal.returns-then-size-le3
 returns-then-size-le3 c = λ rows s sized some most sided.
@@ -64,9 +61,8 @@ returns-then-size-le3 c = λ rows s sized some most sided.
 
 pub flip-requires-4 : goal.flip-requires-4
 flip-requires-4 c =
-    let w = c.requires in
-    let a = three (goal.at.flip-requires-4 c).After-flip-3 w.rows w.simplex w.sized w.some w.sided in
-    omega (arith, rank_below a (omega (arith, c.if-size-le3.false)), w.few, a.long)
+    let a = three (goal.at.flip-requires-4 c).After-flip-3 c.requires.rows c.requires.simplex c.requires.sized c.requires.some c.requires.sided in
+    omega (arith, rank_below a (omega (arith, c.if-size-le3.false)), c.requires.few, a.long)
 
 pub returns : goal.returns
 returns c = λ rows s sized some most sided.

@@ -6,8 +6,7 @@ use Rattle.solver.proofs.fill.Goals as goal
 
 pub load-requires : goal.load-requires
 load-requires c =
-    let known = c.requires in
-    record { matrix_in = known.0; m_bound = known.1.0; h_in_bounds = known.1.1.0; cur_len = known.1.1.1.0; taken_value = refl; le_h = known.1.1.1.1 }
+    record { matrix_in = c.requires.matrix_in; m_bound = c.requires.m_bound; h_in_bounds = c.requires.h_in_bounds; cur_len = c.requires.cur_len; taken_value = refl; le_h = c.requires.le_h }
 
 pub returns : goal.returns
 returns c = λ k.

@@ -25,12 +25,12 @@ one p rows s sized some up sided = climbing-start some sided sized
 module _ (p : After-higher-top) where
   two : Climbed p.before.before (p.args.size - 1 - 1) (p.args.sides / 65536 / 65536) p.higher-top.result
   two rows s sized some up sided =
-      climbing-on (one p.before.before rows s sized some up sided) up (omega (arith, p.if-size-le1.left)) p.higher-top.ensures
+      climbing-on (one p.before.before rows s sized some up sided) up (omega (arith, p.if-size-le1.false)) p.higher-top.ensures
 
 module _ (p : After-higher-top-2) where
   three : Climbed p.before.before.before.before (p.args.size - 1 - 1 - 1) (p.args.sides / 65536 / 65536 / 65536) p.higher-top-2.result
   three rows s sized some up sided =
-      climbing-on (two p.before.before rows s sized some up sided) up (omega (arith, p.if-size-le2.left)) p.higher-top-2.ensures
+      climbing-on (two p.before.before rows s sized some up sided) up (omega (arith, p.if-size-le2.false)) p.higher-top-2.ensures
 
 pub returns-then-size-le1 : goal.returns-then-size-le1
 returns-then-size-le1 c = λ rows s sized some most up sided. climbing-end (one (goal.at.returns-then-size-le1 c).Start rows s sized some up sided) (omega (arith, c.if-size-le1.true))

@@ -2,9 +2,9 @@
 -- Assumes nothing.
 use mathlib.Core.Path.{◌∙◌}
 use lib.ListN.{length}
-use mathlib.Core.Logic.{⊎_elim}
 use native.Mathlib.Omega.{arith}
 use Rattle.solver.proofs.Marking.{marking-start, marking-skip, marking-flip, marking-end}
+use Rattle.solver.proofs.mark.Goals.{then-marks-i, else-marks-i}
 use Rattle.solver.proofs.mark.Goals as goal
 
 pub loop-i-init : goal.loop-i-init
@@ -18,7 +18,7 @@ pub loop-i-preserved : goal.loop-i-preserved
 loop-i-preserved c =
     let a = c.loop-i.invariant.1 in (
       omega (arith, c.loop-i-test.true),
-      ⊎_elim (λ w. marking-flip _ a w.0.taken (w.5 ∙ w.2.ensures)) (λ w. marking-skip _ a w.0.left w.1) c.if-marks-i.branch,
+      elim c.if-marks-i.branch [ then-marks-i w ↦ marking-flip _ a w.if-marks-i.true (w.cur-is ∙ w.flip.ensures) | else-marks-i w ↦ marking-skip _ a w.if-marks-i.false w.cur-is ],
     )
 
 pub shape_of-cur : goal.shape_of-cur

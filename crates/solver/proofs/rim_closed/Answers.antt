@@ -2,13 +2,12 @@
 -- Assumes nothing.
 use Prim.Native.Nat.{◌≤◌, ◌<◌}
 use mathlib.Core.Path.{◌≡◌, sym, ◌∙◌}
-use mathlib.Core.Logic.{⊎_elim}
 use native.Mathlib.Omega.{arith}
 use lib.ListN.{length}
 use Rattle.solver.specs.Columns.{MatrixIn}
 use Rattle.solver.proofs.Adding.{column-sides, column-within}
 use Rattle.solver.proofs.Rimming.{rimming-start, rimming-skip, rimming-add, rim-empty, rim-open}
-use Rattle.solver.proofs.rim_closed.Goals.{After-loop-i, At-loop-i}
+use Rattle.solver.proofs.rim_closed.Goals.{then-marks-i, else-marks-i, After-loop-i, At-loop-i}
 use Rattle.solver.proofs.rim_closed.Goals as goal
 
 pub loop-i-init : goal.loop-i-init
@@ -39,33 +38,33 @@ pub loop-i-preserved : goal.loop-i-preserved
 loop-i-preserved c = λ k.
     let a = c.loop-i.invariant k in
     let lt : c.loop-i.i < length k.high = omega (arith, c.loop-i-test.true, k.count) in
-    ⊎_elim
-    (λ w. rimming-add _ _ _ _ a lt w.0.taken k.few_rows
-    (w.3.ensures _ _ (k.wide _ c.loop-i-test.true) k.some k.most (column-sides k c.loop-i-test.true))
-    w.3.kept.0 w.6)
-    (λ w. rimming-skip _ _ _ _ a lt w.0.left w.1)
-    c.if-marks-i.branch
+    elim c.if-marks-i.branch [
+      | then-marks-i w ↦ rimming-add _ _ _ _ a lt w.if-marks-i.true k.few_rows
+          (w.add_boundary.ensures _ _ (k.wide _ c.loop-i-test.true) k.some k.most (column-sides k c.loop-i-test.true))
+          w.add_boundary.auto.cur w.cur-is
+      | else-marks-i w ↦ rimming-skip _ _ _ _ a lt w.if-marks-i.false w.cur-is
+    ]
 
 pub next_down-found-requires : goal.next_down-found-requires
 next_down-found-requires c =
-    omega (arith, whole (goal.at.next_down-found-requires c).After-slice_known-2-1, c.requires.cur_len, c.requires.matrix_in.row_count, c.requires.matrix_in.few_rows)
+    omega (arith, whole (goal.at.next_down-found-requires c).At-loop-i, c.requires.cur_len, c.requires.matrix_in.row_count, c.requires.matrix_in.few_rows)
 
 -- no row is left
 rows_end : (c : After-loop-i) (k : Matrix (record { before = c.before.before; type_inv = record { sides = c.type_inv.sides } })) → length k.high ≤ c.loop-i.i
 rows_end c k = omega (arith, c.loop-i-test.false, k.count)
 
 pub shape_of-cur-in-At : goal.shape_of-cur-in-At
-shape_of-cur-in-At c = whole (goal.at.shape_of-cur-in-At c).After-slice_known-2-1
+shape_of-cur-in-At c = whole (goal.at.shape_of-cur-in-At c).At-loop-i
 
 pub returns-in-At : goal.returns-in-At
 returns-in-At c = λ k.
-    rim-open _ _ _ _ (c.loop-i.invariant k) (rows_end (goal.at.returns-in-At c).At-loop-i k) k.few_rows k.row_count
+    rim-open _ _ _ _ (c.loop-i.invariant k) (rows_end (goal.at.returns-in-At c).After-loop-i k) k.few_rows k.row_count
     c.next_down-found.ensures c.in-At.is
 
 pub shape_of-cur-in-Nothing : goal.shape_of-cur-in-Nothing
-shape_of-cur-in-Nothing c = whole (goal.at.shape_of-cur-in-Nothing c).After-slice_known-2-1
+shape_of-cur-in-Nothing c = whole (goal.at.shape_of-cur-in-Nothing c).At-loop-i
 
 pub returns-in-Nothing : goal.returns-in-Nothing
 returns-in-Nothing c = λ k.
-    rim-empty _ _ _ _ (c.loop-i.invariant k) (rows_end (goal.at.returns-in-Nothing c).At-loop-i k) k.few_rows k.row_count
+    rim-empty _ _ _ _ (c.loop-i.invariant k) (rows_end (goal.at.returns-in-Nothing c).After-loop-i k) k.few_rows k.row_count
     c.next_down-found.ensures c.in-Nothing.is
