@@ -14,7 +14,7 @@ use lists::{Marks, Verdict};
 use records::Header;
 
 // The record behind the lists: a chain record or a walk with the length of its payload, or the refusal's number.
-#[derive(Drop)]
+#[derive(Clone, Copy)]
 pub enum ChainOpened {
     Positions(usize),
     Walk(usize),
@@ -54,7 +54,7 @@ pub fn open_chain(job: &[u8], at: usize, dim: usize) -> ChainOpened
 }
 
 // A's marks by rank, and the offset of the record behind its own.
-#[derive(Drop)]
+#[derive(Clone, Copy)]
 pub struct ChainStage {
     pub verdict: Verdict,
     pub marks: Marks,

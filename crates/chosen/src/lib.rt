@@ -12,7 +12,7 @@ use lists::{Found, Simplex, SimplexList, Verdict};
 
 // A verdict, and the marks beside it, which count only where nothing was refused. They stand bare, so that each is set where it is
 // handed back from.
-#[derive(Drop)]
+#[derive(Clone, Copy)]
 pub struct ChainRead {
     pub verdict: Verdict,
     pub on: [bool; SimplexList::LIMIT],

@@ -62,7 +62,7 @@ pub fn clear(bytes: &mut [u8])
 }
 
 // What a search for the highest rank finds.
-#[derive(Drop)]
+#[derive(Clone, Copy)]
 pub enum Highest {
     At(usize),
     Nothing,

@@ -8,7 +8,7 @@ ghost use Rattle.complexes.specs.Meaning.{list_of};
 use heads::Head;
 use lists::{Marks, SimplexList};
 
-#[derive(Drop)]
+#[derive(Clone, Copy)]
 pub struct Complex {
     pub v: u16,
     pub edges: SimplexList,
@@ -17,7 +17,7 @@ pub struct Complex {
 }
 
 // The question, the complex after all edits, and A as marks by rank.
-#[derive(Drop)]
+#[derive(Clone, Copy)]
 pub struct Job {
     pub head: Head,
     pub complex: Complex,

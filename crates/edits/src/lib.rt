@@ -13,7 +13,7 @@ use records::Header;
 use stages::Opened;
 
 // An edit: the kind of its list, the seen and the new position there, and the simplex that it moves.
-#[derive(Drop)]
+#[derive(Clone, Copy)]
 pub struct Edit {
     pub kind: usize,
     pub seen: usize,
@@ -66,7 +66,7 @@ fn edit_of(p: &[u8]) -> Edit
 
 // What an edit record comes to before its list is looked at: a verdict, and where nothing is refused the edit, and the
 // offset of the record behind it.
-#[derive(Drop)]
+#[derive(Clone, Copy)]
 pub struct EditRead {
     pub verdict: Verdict,
     pub edit: Edit,
@@ -112,7 +112,7 @@ fn read_edit(job: &[u8], at: usize, left: usize) -> EditRead
 }
 
 // What an edit is judged by in a list: its count, and what stands at the seen position, if anything does.
-#[derive(Drop)]
+#[derive(Clone, Copy)]
 pub struct View {
     pub count: usize,
     pub there: Simplex,
@@ -150,7 +150,7 @@ fn judge(at: usize, edit: Edit, view: View) -> Verdict
 }
 
 // A verdict on a job's edits, and the complex and the marks after them all, which count only where nothing was refused.
-#[derive(Drop)]
+#[derive(Clone, Copy)]
 pub struct EditsRead {
     pub verdict: Verdict,
     pub complex: Complex,

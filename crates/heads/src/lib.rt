@@ -5,7 +5,7 @@ ghost use Rattle.std.specs.Prelude.{◌≡◌, ◌&&◌, ◌||◌, eqb, leb, ◌
 ghost use Rattle.format.specs.Reading.{dimension_fits, question_of};
 ghost use Rattle.heads.specs.Meaning.{HeadKnown};
 
-#[derive(Drop)]
+#[derive(Clone, Copy)]
 pub struct Head {
     pub question: u8,
     pub d: u8,
@@ -13,7 +13,7 @@ pub struct Head {
 }
 
 // What a head's payload is: a sound head, or refusal 5.
-#[derive(Drop)]
+#[derive(Clone, Copy)]
 pub enum HeadRead {
     Sound(Head),
     Bad,

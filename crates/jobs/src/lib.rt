@@ -25,7 +25,7 @@ use records::Header;
 use stages::{ListRead, Opened};
 
 // A verdict, and the job beside it, which counts only where nothing was refused.
-#[derive(Drop)]
+#[derive(Clone, Copy)]
 pub struct JobRead {
     pub verdict: Verdict,
     pub job: Job,
@@ -51,7 +51,7 @@ impl JobRead {
 
 // The same with the lists left in lent arrays: the question, how many simplices each list has, and A as marks by rank, which
 // count only where nothing was refused. Before the edits are taken, `next` is the offset from which on they stand.
-#[derive(Drop)]
+#[derive(Clone, Copy)]
 pub struct NumbersRead {
     pub verdict: Verdict,
     pub head: Head,
@@ -90,7 +90,7 @@ pub fn chain_dimension(head: Head) -> usize
 
 // How many bytes the records of the edges, the triangles and the tetrahedra hold, as far as they stand where they should: what
 // room the reading of the lists takes.
-#[derive(Drop)]
+#[derive(Clone, Copy)]
 pub struct Sizes {
     pub edges: usize,
     pub triangles: usize,
@@ -116,7 +116,7 @@ pub fn list_sizes(job: &[u8]) -> Sizes
 }
 
 // The three lists as they were read, which count only where nothing was refused, and the offset behind them.
-#[derive(Drop)]
+#[derive(Clone, Copy)]
 struct ListsRead {
     pub verdict: Verdict,
     pub counts: Counts,

@@ -13,7 +13,7 @@ use keys::BUCKETS;
 use lists::{Marks, SimplexList, Verdict};
 
 // How many simplices each list has.
-#[derive(Drop)]
+#[derive(Clone, Copy)]
 pub struct Counts {
     pub edges: usize,
     pub triangles: usize,
@@ -109,7 +109,7 @@ fn hold(
 
 // A verdict on a job's edits; and beside it, which count only where nothing was refused, how many simplices each list has,
 // and the marks after them all.
-#[derive(Drop)]
+#[derive(Clone, Copy)]
 pub struct Edited {
     pub verdict: Verdict,
     pub counts: Counts,

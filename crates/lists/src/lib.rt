@@ -14,14 +14,14 @@ pub struct Simplex {
 }
 
 // A list of simplices in rank order: the first `count` items.
-#[derive(Drop)]
+#[derive(Clone, Copy)]
 pub struct SimplexList {
     pub items: [Simplex; SimplexList::LIMIT],
     pub count: usize,
 }
 
 // A chain by ranks in one list: the places that it holds are on.
-#[derive(Drop)]
+#[derive(Clone, Copy)]
 pub struct Marks {
     pub on: [bool; SimplexList::LIMIT],
 }

@@ -133,7 +133,7 @@ pub fn list_of(keys: &[u64], n: usize, width: usize) -> SimplexList
 }
 
 // What looking up the facets of a simplex comes to: their ranks, in one number, or that one of them is not listed.
-#[derive(Drop)]
+#[derive(Clone, Copy)]
 pub enum Facets {
     Ranked(u64),
     Lacking,

@@ -12,7 +12,7 @@ ghost use Rattle.reading_lists.specs.Items.{refusal_of, Shaped, ItemsTaken, unso
 use lists::{Found, Verdict};
 
 // What taking the items of a list comes to: how many are entered. Where one is refused, those before it are.
-#[derive(Drop)]
+#[derive(Clone, Copy)]
 pub struct ItemsRead {
     pub verdict: Verdict,
     pub count: usize,

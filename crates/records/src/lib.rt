@@ -7,7 +7,7 @@ ghost use Rattle.format.specs.Reading.{u16_at, u32_at, header_at, payload_at};
 ghost use Rattle.records.specs.Meaning.{header_of, Reads};
 
 // What stands at a place of the file.
-#[derive(Drop)]
+#[derive(Clone, Copy)]
 pub enum Header {
     // the end of the file
     Ended,

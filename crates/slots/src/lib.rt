@@ -24,7 +24,7 @@ pub fn insert_column(work: &mut [u8], cur: &mut [u8], taken: &mut [bool], h: usi
 }
 
 // Whether a chain has a filling.
-#[derive(Drop)]
+#[derive(Clone, Copy)]
 pub enum Filled {
     Found,
     None,

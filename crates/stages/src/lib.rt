@@ -1,5 +1,6 @@
 // The record stages of a job: a record is opened (2 cut, 3 kind), its shape is checked (4), and then its items.
 #![tactic(auto)]
+
 ghost use Rattle.std.specs.Prelude.{◌≡◌, List, ℕ, ◌+◌, ◌*◌, ◌≤◌, ◌<◌, eqb, length};
 ghost use Rattle.format.specs.Opened.{opened};
 ghost use Rattle.keys.specs.Chained.{Chained};
@@ -12,7 +13,7 @@ use lists::{SimplexList, Verdict};
 use records::Header;
 
 // A record that stands at a place: the length of its payload, or the refusal's number.
-#[derive(Drop)]
+#[derive(Clone, Copy)]
 pub enum Opened {
     Size(usize),
     Refused(u16),
@@ -37,7 +38,7 @@ pub fn open(job: &[u8], at: usize, kind: u16) -> Opened
 }
 
 // What reading a list record comes to: how many simplices are entered, and the offset of the record behind its own.
-#[derive(Drop)]
+#[derive(Clone, Copy)]
 pub struct ListRead {
     pub verdict: Verdict,
     pub count: usize,
