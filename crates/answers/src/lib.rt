@@ -1,5 +1,6 @@
 // Answer records: a refusal, or a chain's members in rising rank.
 #![tactic(auto)]
+
 ghost use Rattle.std.specs.Prelude.{◌≡◌, ◌+◌, ◌*◌, ◌≤◌, ◌<◌, length, set};
 ghost use Rattle.format.specs.Answer.{refusal_record};
 ghost use Rattle.lists.specs.Meaning.{vertices_of};

@@ -1,5 +1,6 @@
 // The stage of a job that says what is asked about: a chain record's positions, or a closed walk.
 #![tactic(auto)]
+
 ghost use Rattle.std.specs.Prelude.{◌≡◌, ◌≤◌, length};
 ghost use Rattle.format.specs.Numbers.{small};
 ghost use Rattle.format.specs.Simplex.{simplices};

@@ -1,0 +1,142 @@
+-- `edits::read_edits` meets its contract: the loop keeps `Taking`, and each return is one of its ends.
+use Prim.Native.Nat.{◌-◌}
+use mathlib.Core.Path.{◌≡◌}
+use native.Mathlib.Omega.{arith}
+use lib.ListN.{length}
+use Rattle.format.specs.Reading.{moved, list_of_kind}
+use Rattle.format.specs.EditLaws.{MovedWithin}
+use Rattle.lists.specs.Items.{length-mapped}
+use Rattle.lists.specs.declared.Marks.{Marks}
+use Rattle.lists.specs.declared.SimplexList.{SimplexList}
+use Rattle.complexes.specs.Meaning.{complex_of}
+use Rattle.complexes.specs.declared.Complex.{Complex}
+use Rattle.edits.specs.Meaning.{MarksStay}
+use Rattle.edits.proofs.Laws.{viewed, Replaced, edges-moved, triangles-moved, tetrahedra-moved, sub-one, marks-go-along, marks-stand}
+use Rattle.edits.proofs.Taking.{Full, Taking, Turn, taking-starts, taking-ends, record-refuses, judge-refuses, moves-within, taking-goes-on}
+use Rattle.std.proofs.Common.{rules}
+use Rattle.edits.proofs.read_edits.Goals.{then-kind, else-kind+then-kind-2, else-kind+else-kind-2, After-judge-judged, In_default-judged, Joined-kind, Start}
+use Rattle.edits.proofs.read_edits.Goals as goal
+
+-- the arrays have all their places
+full : (c : Start) → Full c.args.complex c.args.marks
+full c =
+    record {
+      edges = search (rules, length-mapped);
+      triangles = search (rules, length-mapped);
+      tetrahedra = search (rules, length-mapped);
+      all_marks = search rules;
+    }
+
+pub loop-at-init : goal.loop-at-init
+loop-at-init c =
+    let a = c.args in
+    taking-starts a.job.now a.at a.dim a.complex a.marks (full (goal.at.loop-at-init c).Start)
+
+pub returns-in-Refused : goal.returns-in-Refused
+returns-in-Refused c =
+    let a = c.args in
+    record-refuses c.loop-at.invariant c.read_edit-read.result c.read_edit-read.ensures _ _ a.complex c.loop-at.marks c.in-Refused.is
+
+-- the complex as the loop has it
+abbrev present : Complex → SimplexList → SimplexList → SimplexList → Complex
+present read edges triangles tetrahedra =
+    record {
+      v = read.v;
+      edges = edges;
+      triangles = triangles;
+      tetrahedra = tetrahedra;
+    }
+
+-- what the turn has come to with the judgement: the view is of the list that the edit names
+turn : (c : After-judge-judged)
+    →
+    Turn c.args.job.now c.loop-at.left c.loop-at.at (present c.args.complex c.loop-at.edges c.loop-at.triangles c.loop-at.tetrahedra) c.read_edit-read.result c.judge-judged.result
+turn c =
+    let full = c.loop-at.invariant.full in
+    let one = c.read_edit-read.ensures in
+    let fine = c.in_default.is in
+    let rank = c.least-rank.ensures in
+    record {
+      one = one;
+      fine = fine;
+      view = c.view_of-view.result;
+      views = c.view_of-view.ensures.views (complex_of (present c.args.complex c.loop-at.edges c.loop-at.triangles c.loop-at.tetrahedra)) c.read_edit-read.result.edit.seen (one.least fine) (one.most fine) (viewed _ _ _ full.edges rank) (viewed _ _ _ full.triangles rank) (viewed _ _ _ full.tetrahedra rank);
+      judged = c.judge-judged.ensures;
+    }
+
+pub returns-in-Refused-judged : goal.returns-in-Refused-judged
+returns-in-Refused-judged c =
+    judge-refuses c.loop-at.invariant (turn (goal.at.returns-in-Refused-judged c).After-judge-judged) _ _ c.args.complex c.loop-at.marks c.in-Refused-judged.is
+
+-- both positions are in the list
+within : (c : In_default-judged)
+    →
+    let list = list_of_kind c.read_edit-read.result.edit.kind (complex_of (present c.args.complex c.loop-at.edges c.loop-at.triangles c.loop-at.tetrahedra)) in
+    MovedWithin c.read_edit-read.result.edit.seen c.read_edit-read.result.edit.new list (moved c.read_edit-read.result.edit.seen c.read_edit-read.result.edit.new list)
+within c = moves-within (turn (record { before = c.before.before; type_inv = record { job = c.type_inv.job } })) c.in_default-judged.is
+
+-- the complex with the list moved
+abbrev changed : Joined-kind → Complex
+changed c =
+    record { v = (present c.args.complex c.loop-at.edges c.loop-at.triangles c.loop-at.tetrahedra).v; edges = c.if-kind.edges; triangles = c.if-kind.triangles; tetrahedra = c.if-kind.tetrahedra }
+
+replaced : (c : Joined-kind)
+    →
+    Replaced c.read_edit-read.result.edit.kind c.read_edit-read.result.edit.seen c.read_edit-read.result.edit.new (present c.args.complex c.loop-at.edges c.loop-at.triangles c.loop-at.tetrahedra) (changed c)
+replaced c =
+    let j = turn (record { before = c.before.before.before; type_inv = record { job = c.type_inv.job } }) in
+    let below = (within (record { before = c.before.before; type_inv = record { job = c.type_inv.job } })).new_below in
+    elim c.if-kind.branch [
+      | then-kind w ↦ rw (w.edges-is, w.triangles-is, w.tetrahedra-is) (edges-moved (present c.args.complex c.loop-at.edges c.loop-at.triangles c.loop-at.tetrahedra) w.moved-edges.result below w.if-kind.true w.moved-edges.ensures)
+      | else-kind+then-kind-2 w ↦ rw (w.edges-is, w.triangles-is, w.tetrahedra-is) (triangles-moved (present c.args.complex c.loop-at.edges c.loop-at.triangles c.loop-at.tetrahedra) w.moved-triangles.result below w.if-kind-2.true w.moved-triangles.ensures)
+      | else-kind+else-kind-2 w ↦ rw (w.edges-is, w.triangles-is, w.tetrahedra-is) (tetrahedra-moved (present c.args.complex c.loop-at.edges c.loop-at.triangles c.loop-at.tetrahedra) w.moved-tetrahedra.result below (omega (arith, w.if-kind.false, w.if-kind-2.false, j.one.least j.fine, j.one.most j.fine)) w.moved-tetrahedra.ensures)
+    ]
+
+full-after : (c : Joined-kind)
+    →
+    Full (changed c) c.loop-at.marks
+full-after c =
+    let full = c.loop-at.invariant.full in
+    elim c.if-kind.branch [
+      | then-kind w ↦ rw (w.edges-is, w.triangles-is, w.tetrahedra-is) (record { edges = search (rules, length-mapped); triangles = full.triangles; tetrahedra = full.tetrahedra; all_marks = full.all_marks })
+      | else-kind+then-kind-2 w ↦ rw (w.edges-is, w.triangles-is, w.tetrahedra-is) (record { edges = full.edges; triangles = search (rules, length-mapped); tetrahedra = full.tetrahedra; all_marks = full.all_marks })
+      | else-kind+else-kind-2 w ↦ rw (w.edges-is, w.triangles-is, w.tetrahedra-is) (record { edges = full.edges; triangles = full.triangles; tetrahedra = search (rules, length-mapped); all_marks = full.all_marks })
+    ]
+
+-- the loop goes on with the list moved, and with any marks that hold the same set
+goes_on : (c : Joined-kind) (later : Marks)
+    →
+    let a = c.args in
+    MarksStay a.dim (present c.args.complex c.loop-at.edges c.loop-at.triangles c.loop-at.tetrahedra) c.loop-at.marks (changed c) later
+    → length later.on ≡ 512
+    → Taking a.job.now a.at a.dim a.complex a.marks c.read_edit-read.result.next (changed c) later (c.loop-at.left - 1)
+goes_on c later stays all =
+    let full = full-after c in
+    taking-goes-on c.loop-at.invariant (turn (record { before = c.before.before.before; type_inv = record { job = c.type_inv.job } })) c.in_default-judged.is (changed c) (replaced c) later stays
+    (record { edges = full.edges; triangles = full.triangles; tetrahedra = full.tetrahedra; all_marks = all }) _ (sub-one _)
+
+pub overflow_sub-left : goal.overflow_sub-left
+overflow_sub-left c = let j = turn (goal.at.overflow_sub-left c).After-judge-judged in j.one.allowed j.fine
+
+pub overflow_sub-kind : goal.overflow_sub-kind
+overflow_sub-kind c = let j = turn (goal.at.overflow_sub-kind c).After-judge-judged in omega (arith, j.one.least j.fine)
+
+pub loop-at-smaller-then-kind-dim : goal.loop-at-smaller-then-kind-dim
+loop-at-smaller-then-kind-dim c = let j = turn (goal.at.loop-at-smaller-then-kind-dim c).After-judge-judged in omega (arith, j.one.allowed j.fine)
+
+pub loop-at-preserved-then-kind-dim : goal.loop-at-preserved-then-kind-dim
+loop-at-preserved-then-kind-dim c =
+    let j = turn (goal.at.loop-at-preserved-then-kind-dim c).After-judge-judged in
+    goes_on (goal.at.loop-at-preserved-then-kind-dim c).Joined-kind c.moved-marks.result
+    (marks-go-along (replaced (goal.at.loop-at-preserved-then-kind-dim c).Joined-kind) (j.one.least j.fine) (j.one.most j.fine) (within (goal.at.loop-at-preserved-then-kind-dim c).In_default-judged) c.if-kind-dim.true c.loop-at.invariant.full.all_marks c.moved-marks.ensures)
+    (search (rules, c.moved-marks.type_inv))
+
+pub loop-at-smaller : goal.loop-at-smaller
+loop-at-smaller c = let j = turn (goal.at.loop-at-smaller c).After-judge-judged in omega (arith, j.one.allowed j.fine)
+
+pub loop-at-preserved : goal.loop-at-preserved
+loop-at-preserved c =
+    goes_on (goal.at.loop-at-preserved c).Joined-kind c.loop-at.marks (marks-stand (replaced (goal.at.loop-at-preserved c).Joined-kind) c.if-kind-dim.false) c.loop-at.invariant.full.all_marks
+
+pub returns : goal.returns
+returns c = taking-ends c.loop-at.invariant c.loop-at-test.false
