@@ -2,6 +2,7 @@
 // the ranks of their facets beside them, their sides. A complex by value is made of them for the edits, and for whoever writes a
 // job.
 #![tactic(auto)]
+
 ghost use Rattle.std.specs.Prelude.{◌≡◌, length};
 ghost use Rattle.format.specs.Simplex.{simplices};
 ghost use Rattle.format.specs.Simplex as format;
