@@ -2,6 +2,7 @@
 // the lists stay where they were read: as numbers in lent arrays, of edges (e), triangles (t) and tetrahedra (s), with the sides
 // of the latter two.
 #![tactic(auto)]
+
 ghost use Rattle.std.specs.Prelude.{◌≡◌, List, ◌≤◌, length};
 ghost use Rattle.format.specs.Numbers.{small};
 ghost use Rattle.format.specs.Simplex.{Simplex};
