@@ -1,6 +1,7 @@
 // Answers a job: it is read into lent arrays, the sides of the asked dimension go to the solver, and its chain or its refusal
 // into the output.
 #![tactic(auto)]
+
 ghost use Rattle.std.specs.Prelude.{◌≡◌, ◌≤◌, length};
 ghost use Rattle.format.specs.Simplex.{vertex_list, lower, simplices};
 ghost use Rattle.format.specs.Reading.{fill, class, chain_dimension, question_of};

@@ -1,5 +1,6 @@
 // The write call: reads a job and puts its normal form into lent bytes, or says why not.
 #![tactic(auto)]
+
 ghost use Rattle.std.specs.Prelude.{◌≡◌, ◌≤◌, ◌<◌, length};
 ghost use Rattle.format.specs.Numbers.{small};
 ghost use Rattle.format.specs.Promise.{two_numbers, WrittenJob, WritePromise};

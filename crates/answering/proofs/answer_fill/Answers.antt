@@ -1,0 +1,108 @@
+-- `answering::answer_fill` meets its contract: what the solver told is the answer, and its record is put out.
+-- Assumes nothing.
+use Prim.Native.Nat.{◌+◌, ◌≤◌}
+use native.Mathlib.Omega.{arith}
+use native.Mathlib.Nat.{le_trans}
+use mathlib.Core.Path.{◌≡◌, refl, sym, subst}
+use lib.ListN.{length, length-take, length-drop}
+use Rattle.chains.specs.Chain.{empty}
+use Rattle.columns.specs.Slot.{half_v}
+use Rattle.format.specs.Simplex.{Complex, simplices}
+use Rattle.format.specs.Reading.{question_of}
+use Rattle.lookup.specs.Numbered.{simplices_in}
+use Rattle.lent_lists.specs.Held.{complex_in}
+use Rattle.lent_lists.specs.HeldLaws.{held-counted, few-simplices}
+use Rattle.solver.specs.Room.{room_small}
+use Rattle.solver.specs.Solved.{fill-says}
+use Rattle.answering.proofs.Lists.{numbers-list, numbers_fit, matrix-in, members-room}
+use Rattle.answering.proofs.Told.{answers-open, answers-unfilled, answers-patch, dimension-few}
+use Rattle.answering.proofs.answer_fill.Goals.{After-numbers_of-cols, After-numbers_of-sides, Start}
+use Rattle.answering.proofs.answer_fill.Goals as goal
+
+-- the complex that the arrays hold
+abbrev lists : Start → Complex
+lists start =
+    complex_in start.args.read.head.v start.args.read.counts start.args.e_keys.now start.args.t_keys.now start.args.s_keys.now
+
+-- A has dimension 2 at most
+small-dim : (start : Start) → start.args.dim ≤ 2
+small-dim start = subst (λ n. n ≤ 2) (sym start.requires.dim_value) (dimension-few (question_of start.args.read.head.question) start.args.read.head.d start.requires.asking.head.dimension)
+
+-- what is known once the sides are chosen
+module _ (c : After-numbers_of-sides) where
+  m-is : c.of-m.result ≡ length (simplices (lists c.before.before.before.before.before.before.before.before.before.before.before.before.before.before) c.args.dim)
+  m-is = c.of-m.ensures (lists c.before.before.before.before.before.before.before.before.before.before.before.before.before.before) (held-counted c.requires.asking.held)
+
+  n-is : c.of-n.result ≡ length (simplices (lists c.before.before.before.before.before.before.before.before.before.before.before.before.before.before) (c.args.dim + 1))
+  n-is = c.of-n.ensures (lists c.before.before.before.before.before.before.before.before.before.before.before.before.before.before) (held-counted c.requires.asking.held)
+
+  few : c.of-m.result ≤ 512
+  few = subst (λ n. n ≤ 512) (sym m-is) (few-simplices (lists c.before.before.before.before.before.before.before.before.before.before.before.before.before.before) c.requires.asking.held.sound _)
+
+  few_columns : c.of-n.result ≤ 512
+  few_columns = subst (λ n. n ≤ 512) (sym n-is) (few-simplices (lists c.before.before.before.before.before.before.before.before.before.before.before.before.before.before) c.requires.asking.held.sound _)
+
+-- the patch is made of the columns
+module _ (c : After-numbers_of-cols) where
+  patch-list : simplices_in (c.args.dim + 2) c.numbers_of-cols.result.now c.of-n.result
+      ≡ simplices (lists c.before.before.before.before.before.before.before.before.before.before.before.before.before.before.before.before.before.before.before.before.before.before) (c.args.dim + 1)
+  patch-list =
+      let d = small-dim c.before.before.before.before.before.before.before.before.before.before.before.before.before.before.before.before.before.before.before.before.before.before in
+      numbers-list c.requires.asking.held (c.args.dim + 1) _ _ c.numbers_of-cols.ensures (omega arith) (omega arith) (omega arith)
+      (n-is (record { before = c.before.before.before.before.before.before.before.before.before; type_inv = record { s_sides = c.type_inv.s_sides; t_sides = c.type_inv.t_sides; s_keys = c.type_inv.s_keys; t_keys = c.type_inv.t_keys; e_keys = c.type_inv.e_keys; work = c.type_inv.work; out = c.type_inv.out } }))
+
+pub overflow_add-dim : goal.overflow_add-dim
+overflow_add-dim c = omega (arith, small-dim (goal.at.overflow_add-dim c).Start)
+
+pub overflow_add-dim-2 : goal.overflow_add-dim-2
+overflow_add-dim-2 c = omega (arith, small-dim (goal.at.overflow_add-dim-2 c).Start)
+
+pub overflow_add-dim-3 : goal.overflow_add-dim-3
+overflow_add-dim-3 c = omega (arith, small-dim (goal.at.overflow_add-dim-3 c).Start)
+
+pub fill-filled-requires : goal.fill-filled-requires
+fill-filled-requires c =
+    record { matrix_in = matrix-in c.requires.asking.held c.args.dim _ _ c.numbers_of-sides.ensures (small-dim (goal.at.fill-filled-requires c).Start) (m-is (goal.at.fill-filled-requires c).After-numbers_of-sides) (n-is (goal.at.fill-filled-requires c).After-numbers_of-sides); m_bound = few (goal.at.fill-filled-requires c).After-numbers_of-sides; h_in_bounds = omega (arith, room_small, c.requires.in_bounds_2); cur_len = refl; le_h = omega arith }
+
+pub overflow_add-dim-in-Found : goal.overflow_add-dim-in-Found
+overflow_add-dim-in-Found c = omega (arith, small-dim (goal.at.overflow_add-dim-in-Found c).Start)
+
+pub overflow_add-dim-in-Found-2 : goal.overflow_add-dim-in-Found-2
+overflow_add-dim-in-Found-2 c = omega (arith, small-dim (goal.at.overflow_add-dim-in-Found-2 c).Start)
+
+pub put_chain-requires : goal.put_chain-requires
+put_chain-requires c =
+    record { le_size = (omega arith, omega (arith, small-dim (goal.at.put_chain-requires c).Start)); n_in_bounds = numbers_fit c.requires.asking.held _ _ c.numbers_of-cols.ensures (omega arith) (omega (arith, small-dim (goal.at.put_chain-requires c).Start)) (n-is (goal.at.put_chain-requires c).After-numbers_of-sides); n_in_bounds_2 = le_trans (members-room (lists (goal.at.put_chain-requires c).Start) c.requires.asking.held.sound (c.args.dim + 1) _ (patch-list (goal.at.put_chain-requires c).After-numbers_of-cols) _) c.requires.in_bounds; n_bound = simp (length-take, length-drop) (omega (arith, few_columns (goal.at.put_chain-requires c).After-numbers_of-sides, c.fill-filled.auto.cur)) }
+
+pub rim_closed-closed-requires : goal.rim_closed-closed-requires
+rim_closed-closed-requires c = record { asking = c.requires.asking; dim_bound = small-dim (goal.at.rim_closed-closed-requires c).Start }
+
+pub put_refusal-requires : goal.put_refusal-requires
+put_refusal-requires c = omega (arith, c.requires.in_bounds)
+
+pub returns-then-not-closed : goal.returns-then-not-closed
+returns-then-not-closed c = λ k.
+    answers-open k c.requires.dim_value c.requires.question_value c.rim_closed-closed.ensures c.if-not-closed.true c.put_refusal.ensures
+
+pub put_refusal-requires-in-None : goal.put_refusal-requires-in-None
+put_refusal-requires-in-None c = omega (arith, c.requires.in_bounds)
+
+pub returns-in-Found : goal.returns-in-Found
+unfolding half_v matrix-in
+returns-in-Found c = λ k.
+    answers-patch k c.requires.dim_value c.requires.question_value _
+    (patch-list (goal.at.returns-in-Found c).After-numbers_of-cols)
+    (fill-says (c.fill-filled.ensures
+    (matrix-in c.requires.asking.held c.args.dim _ _ c.numbers_of-sides.ensures (small-dim (goal.at.returns-in-Found c).Start) (m-is (goal.at.returns-in-Found c).After-numbers_of-sides) (n-is (goal.at.returns-in-Found c).After-numbers_of-sides)))
+    c.in-Found.is)
+    c.put_chain.ensures
+
+pub returns-else-not-closed : goal.returns-else-not-closed
+unfolding matrix-in
+returns-else-not-closed c = λ k.
+    answers-unfilled k c.requires.dim_value c.requires.question_value c.rim_closed-closed.ensures empty
+    c.if-not-closed.false
+    (fill-says (c.fill-filled.ensures
+    (matrix-in c.requires.asking.held c.args.dim _ _ c.numbers_of-sides.ensures (small-dim (goal.at.returns-else-not-closed c).Start) (m-is (goal.at.returns-else-not-closed c).After-numbers_of-sides) (n-is (goal.at.returns-else-not-closed c).After-numbers_of-sides)))
+    c.in-None.is)
+    c.put_refusal-in-None.ensures

@@ -1,0 +1,47 @@
+-- `answering::rim_closed` meets its contract: the boundary of vertices is empty, and that of other chains is looked at.
+-- Assumes nothing.
+use Prim.Native.Nat.{◌+◌, ◌-◌, ◌≤◌, ◌<◌}
+use mathlib.Core.Path.{◌≡◌, refl, sym, subst}
+use native.Mathlib.Omega.{arith}
+use lib.ListN.{length}
+use Rattle.format.specs.Simplex.{Complex, simplices}
+use Rattle.lent_lists.specs.Held.{complex_in}
+use Rattle.lent_lists.specs.HeldLaws.{held-counted, few-simplices}
+use Rattle.answering.proofs.Lists.{rim-none, rim-below, matrix-in}
+use Rattle.answering.proofs.rim_closed.Goals.{After-numbers_of-sides, Start}
+use Rattle.answering.proofs.rim_closed.Goals as goal
+
+-- the complex that the arrays hold
+abbrev lists : Start → Complex
+lists start =
+    complex_in start.args.read.head.v start.args.read.counts start.args.e_keys.now start.args.t_keys.now start.args.s_keys.now
+
+-- what is known once the sides are chosen
+module _ (c : After-numbers_of-sides) where
+  below : c.args.dim - 1 ≤ 2
+  below = omega (arith, c.requires.dim_bound)
+
+  some : 0 < c.args.dim
+  some = omega (arith, c.if-dim-eq0.false)
+
+  m-is : c.of-m.result ≡ length (simplices (lists c.before.before.before.before.before.before.before.before.before.before.before.before.before) (c.args.dim - 1))
+  m-is = c.of-m.ensures (lists c.before.before.before.before.before.before.before.before.before.before.before.before.before) (held-counted c.requires.asking.held)
+
+  n-is : c.of-n.result ≡ length (simplices (lists c.before.before.before.before.before.before.before.before.before.before.before.before.before) (c.args.dim - 1 + 1))
+  n-is = c.of-n.ensures (lists c.before.before.before.before.before.before.before.before.before.before.before.before.before) (held-counted c.requires.asking.held)
+
+  few : c.of-n.result ≤ 512
+  few = subst (λ n. n ≤ 512) (sym n-is) (few-simplices (lists c.before.before.before.before.before.before.before.before.before.before.before.before.before) c.requires.asking.held.sound _)
+
+pub returns-then-dim-eq0 : goal.returns-then-dim-eq0
+returns-then-dim-eq0 c = rim-none (lists (goal.at.returns-then-dim-eq0 c).Start) _ _ c.if-dim-eq0.true
+
+pub rim_closed-requires : goal.rim_closed-requires
+rim_closed-requires c =
+    record { matrix_in = matrix-in c.requires.asking.held (c.args.dim - 1) _ _ c.numbers_of-sides.ensures (below (goal.at.rim_closed-requires c).After-numbers_of-sides) (m-is (goal.at.rim_closed-requires c).After-numbers_of-sides) (n-is (goal.at.rim_closed-requires c).After-numbers_of-sides); n_bound = few (goal.at.rim_closed-requires c).After-numbers_of-sides; cur_len = refl }
+
+pub returns : goal.returns
+unfolding matrix-in
+returns c =
+    rim-below (lists (goal.at.returns c).Start) _ (some (goal.at.returns c).After-numbers_of-sides) (c.rim_closed.ensures
+    (matrix-in c.requires.asking.held (c.args.dim - 1) _ _ c.numbers_of-sides.ensures (below (goal.at.returns c).After-numbers_of-sides) (m-is (goal.at.returns c).After-numbers_of-sides) (n-is (goal.at.returns c).After-numbers_of-sides)))
