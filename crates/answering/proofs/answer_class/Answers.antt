@@ -41,7 +41,7 @@ module _ (c : After-numbers_of-sides) where
 vertices-listed : (c : After-number_vertices) →
     simplices_in 1 c.number_vertices.new.keys c.of-m.result ≡ simplices (lists c.before.before.before.before.before.before.before.before.before.before.before.before.before.before.before.before.before.before.before.before.before.before.before) c.args.dim
 vertices-listed c =
-    c.number_vertices.ensures ∙ vertices-are (lists c.before.before.before.before.before.before.before.before.before.before.before.before.before.before.before.before.before.before.before.before.before.before.before) _ _ c.if-dim-eq0.true (m-is (record { before = c.before.before.before.before.before.before.before.before.before.before; type_inv = record { s_sides = c.type_inv.s_sides; t_sides = c.type_inv.t_sides; s_keys = c.type_inv.s_keys; t_keys = c.type_inv.t_keys; e_keys = c.type_inv.e_keys; work = c.type_inv.work; out = c.type_inv.out } }))
+    c.number_vertices.ensures ∙ vertices-are (lists c.before.before.before.before.before.before.before.before.before.before.before.before.before.before.before.before.before.before.before.before.before.before.before) _ _ c.if-dim-eq0.true (c.of-m.ensures (lists c.before.before.before.before.before.before.before.before.before.before.before.before.before.before.before.before.before.before.before.before.before.before.before) (held-counted c.requires.asking.held))
 
 -- simplices of other dimensions by their numbers
 rows-listed : (c : After-numbers_of-rows) →
@@ -50,7 +50,7 @@ rows-listed : (c : After-numbers_of-rows) →
 rows-listed c =
     let d = small-dim c.before.before.before.before.before.before.before.before.before.before.before.before.before.before.before.before.before.before.before.before.before.before in
     let some = c.if-dim-eq0.false in
-    numbers-list c.requires.asking.held c.args.dim _ _ c.numbers_of-rows.ensures (omega arith) (omega arith) (omega arith) (m-is (record { before = c.before.before.before.before.before.before.before.before.before; type_inv = record { s_sides = c.type_inv.s_sides; t_sides = c.type_inv.t_sides; s_keys = c.type_inv.s_keys; t_keys = c.type_inv.t_keys; e_keys = c.type_inv.e_keys; work = c.type_inv.work; out = c.type_inv.out } }))
+    numbers-list c.requires.asking.held c.args.dim _ _ c.numbers_of-rows.ensures (omega arith) (omega arith) (omega arith) (c.of-m.ensures (lists c.before.before.before.before.before.before.before.before.before.before.before.before.before.before.before.before.before.before.before.before.before.before) (held-counted c.requires.asking.held))
 
 pub overflow_add-dim : goal.overflow_add-dim
 overflow_add-dim c = omega (arith, small-dim (goal.at.overflow_add-dim c).Start)

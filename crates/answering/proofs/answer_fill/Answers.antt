@@ -49,7 +49,7 @@ module _ (c : After-numbers_of-cols) where
   patch-list =
       let d = small-dim c.before.before.before.before.before.before.before.before.before.before.before.before.before.before.before.before.before.before.before.before.before.before in
       numbers-list c.requires.asking.held (c.args.dim + 1) _ _ c.numbers_of-cols.ensures (omega arith) (omega arith) (omega arith)
-      (n-is (record { before = c.before.before.before.before.before.before.before.before.before; type_inv = record { s_sides = c.type_inv.s_sides; t_sides = c.type_inv.t_sides; s_keys = c.type_inv.s_keys; t_keys = c.type_inv.t_keys; e_keys = c.type_inv.e_keys; work = c.type_inv.work; out = c.type_inv.out } }))
+      (c.of-n.ensures (lists c.before.before.before.before.before.before.before.before.before.before.before.before.before.before.before.before.before.before.before.before.before.before) (held-counted c.requires.asking.held))
 
 pub overflow_add-dim : goal.overflow_add-dim
 overflow_add-dim c = omega (arith, small-dim (goal.at.overflow_add-dim c).Start)

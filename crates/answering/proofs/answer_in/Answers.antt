@@ -8,27 +8,22 @@ use Rattle.lists.specs.declared.Verdict.TheVariants.{Fine}
 use Rattle.jobs.specs.Meaning.{Told}
 use Rattle.jobs.specs.Known.{unedited-refusal, unedited-told, told-refusal, told_asking}
 use Rattle.answering.proofs.Told.{file-refused, file-answered}
-use Rattle.answering.proofs.answer_in.Goals.{After-take_edits-edited, In_default, Then-job-read}
+use Rattle.answering.proofs.answer_in.Goals.{After-take_edits-edited, Then-job-read}
 use Rattle.answering.proofs.answer_in.Goals as goal
 
--- and nothing was refused
-module _ (c : In_default) where
-  fine : c.read_unedited-read.result.verdict ≡ Fine
-  fine = c.in_default.is
-
--- no edits stand behind what was read
+-- nothing was refused, and no edits stand behind what was read
 module _ (c : Then-job-read) where
   job-told :
       Told (reading small c.args.job.now) c.read_unedited-read.new.e_keys c.read_unedited-read.new.t_keys c.read_unedited-read.new.s_keys
       c.read_unedited-read.new.t_sides c.read_unedited-read.new.s_sides c.read_unedited-read.result
-  job-told = unedited-told c.read_unedited-read.ensures (fine (record { before = c.before.before.before; type_inv = record { s_sides = c.type_inv.s_sides; t_sides = c.type_inv.t_sides; s_keys = c.type_inv.s_keys; t_keys = c.type_inv.t_keys; e_keys = c.type_inv.e_keys; work = c.type_inv.work; out = c.type_inv.out; job = c.type_inv.job } })) c.if-job-read.true
+  job-told = unedited-told c.read_unedited-read.ensures c.in_default.is c.if-job-read.true
 
 -- or they were taken
 module _ (c : After-take_edits-edited) where
   edited-told :
       Told (reading small c.args.job.now) c.take_edits-edited.new.e_keys c.take_edits-edited.new.t_keys
       c.take_edits-edited.new.s_keys c.take_edits-edited.new.t_sides c.take_edits-edited.new.s_sides c.take_edits-edited.result
-  edited-told = c.take_edits-edited.ensures _ c.read_unedited-read.ensures (fine (record { before = c.before.before.before.before.before.before.before.before.before; type_inv = record { s_sides = c.type_inv.s_sides; t_sides = c.type_inv.t_sides; s_keys = c.type_inv.s_keys; t_keys = c.type_inv.t_keys; e_keys = c.type_inv.e_keys; work = c.type_inv.work; out = c.type_inv.out; job = c.type_inv.job } }))
+  edited-told = c.take_edits-edited.ensures _ c.read_unedited-read.ensures c.in_default.is
 
 pub put_refusal-requires : goal.put_refusal-requires
 put_refusal-requires c = omega (arith, c.requires.in_bounds)
@@ -39,15 +34,15 @@ returns-in-Refused c =
 
 pub answer_job-requires : goal.answer_job-requires
 answer_job-requires c =
-    record { asking = told_asking _ _ (job-told (goal.at.answer_job-requires c).Then-job-read) (fine (goal.at.answer_job-requires c).In_default); in_bounds = c.requires.in_bounds; in_bounds_2 = c.requires.in_bounds_2 }
+    record { asking = told_asking _ _ (job-told (goal.at.answer_job-requires c).Then-job-read) c.in_default.is; in_bounds = c.requires.in_bounds; in_bounds_2 = c.requires.in_bounds_2 }
 
 pub returns-then-job-read : goal.returns-then-job-read
 returns-then-job-read c =
-    file-answered (job-told (goal.at.returns-then-job-read c).Then-job-read) (fine (goal.at.returns-then-job-read c).In_default) c.answer_job.ensures
+    file-answered (job-told (goal.at.returns-then-job-read c).Then-job-read) c.in_default.is c.answer_job.ensures
 
 pub take_edits-edited-requires : goal.take_edits-edited-requires
 take_edits-edited-requires c =
-    c.read_unedited-read.ensures.held (fine (goal.at.take_edits-edited-requires c).In_default)
+    c.read_unedited-read.ensures.held c.in_default.is
 
 pub put_refusal-requires-in-Refused-verdict_edited : goal.put_refusal-requires-in-Refused-verdict_edited
 put_refusal-requires-in-Refused-verdict_edited c = omega (arith, c.requires.in_bounds)
