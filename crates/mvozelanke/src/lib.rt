@@ -2,6 +2,7 @@
 // answer call lends the arrays in which a job's lists stay from reading to answer (crate `lent_lists`): what is lent has to be made
 // zero first, so a small job gets small ones, and one without tetrahedra none for them (decision 25).
 #![tactic(auto)]
+
 ghost use Rattle.std.specs.Prelude.{◌≡◌, true, ◌≤◌, length, replicate};
 ghost use Rattle.format.specs.Numbers.{small};
 ghost use Rattle.format.specs.Promise.{AnswerPromise, WritePromise};
