@@ -1,6 +1,7 @@
-// The panel's calls: numbers and byte slices, no demands on the caller. Everything that matters stands below this crate. The
-// answer call lends the arrays in which a job's lists stay from reading to answer (crate `lent_lists`): what is lent has to be made
-// zero first, so a small job gets small ones, and one without tetrahedra none for them (decision 25).
+// The panel's calls: numbers and byte slices, no demands on the caller. Everything that matters stands below this crate, and
+// crate `mvozelanke_c` exports the calls to C. The answer call lends the arrays in which a job's lists stay from reading to answer
+// (crate `lent_lists`): what is lent has to be made zero first, so a small job gets small ones, and one without tetrahedra none for
+// them (decision 25).
 #![tactic(auto)]
 
 ghost use Rattle.std.specs.Prelude.{◌≡◌, true, ◌≤◌, length, replicate};
@@ -100,8 +101,7 @@ fn answer_file(job: &[u8], out: &mut [u8], work: &mut [u8]) -> usize
 
 // Answers a job: the record goes to the front of `out`, its length is returned, and `work` is all zero afterwards. Where
 // fewer than 2,055 output bytes or 65,536 bytes of work memory are lent, returns 0 and writes nothing.
-#[unsafe(no_mangle)]
-pub extern "C" fn mvz_answer(job: &[u8], out: &mut [u8], work: &mut [u8]) -> usize
+pub fn mvz_answer(job: &[u8], out: &mut [u8], work: &mut [u8]) -> usize
     ensures { AnswerPromise small job.now out.old work.old result out.new work.new }
 {
     let room = out.len();
@@ -119,8 +119,7 @@ pub extern "C" fn mvz_answer(job: &[u8], out: &mut [u8], work: &mut [u8]) -> usi
 
 // Writes a job's normal form: the upper 32 bits are a refusal's number, 0 where it was written, the lower 32 the length
 // written or the refusal's place. A refusal writes nothing.
-#[unsafe(no_mangle)]
-pub extern "C" fn mvz_write(job: &[u8], out: &mut [u8]) -> u64
+pub fn mvz_write(job: &[u8], out: &mut [u8]) -> u64
     ensures { WritePromise small job.now out.old result out.new }
 {
     writing::write(job, out)

@@ -2,6 +2,7 @@
 // 'ok', or 'refused' with the refusal's number and place. It ends with the input, or with the line 'bad frame' where a
 // frame is cut or longer than the buffer.
 #![tactic(auto)]
+
 use lists::Verdict;
 
 // Writes the line of one verdict.
