@@ -1,6 +1,8 @@
 -- `answering::answer_in` meets its contract: what the reading refuses, what the edits' reading refuses, or the answer to the job.
 -- Assumes nothing.
 use native.Mathlib.Omega.{arith}
+use Prim.Native.Nat.{◌≤◌}
+use lib.ListN.{length}
 use mathlib.Core.Path.{◌≡◌, ◌∙◌}
 use Rattle.format.specs.Numbers.{small}
 use Rattle.format.specs.Reading.{reading}
@@ -12,11 +14,11 @@ use Rattle.answering.proofs.answer_in.Goals.{After-take_edits-edited, Then-job-r
 use Rattle.answering.proofs.answer_in.Goals as goal
 
 -- nothing was refused, and no edits stand behind what was read
-module _ (c : Then-job-read) where
+module _ (c : Then-job-read) (last : length c.args.job.now ≤ c.read_unedited-read.result.next) where
   job-told :
       Told (reading small c.args.job.now) c.read_unedited-read.new.e_keys c.read_unedited-read.new.t_keys c.read_unedited-read.new.s_keys
       c.read_unedited-read.new.t_sides c.read_unedited-read.new.s_sides c.read_unedited-read.result
-  job-told = unedited-told c.read_unedited-read.ensures c.in_default.is c.if-job-read.true
+  job-told = unedited-told c.read_unedited-read.ensures c.in_default.is last
 
 -- or they were taken
 module _ (c : After-take_edits-edited) where
@@ -34,11 +36,11 @@ returns-in-Refused c =
 
 pub answer_job-requires : goal.answer_job-requires
 answer_job-requires c =
-    record { asking = told_asking _ _ (job-told (goal.at.answer_job-requires c).Then-job-read) c.in_default.is; in_bounds = c.requires.in_bounds; in_bounds_2 = c.requires.in_bounds_2 }
+    record { asking = told_asking _ _ (job-told (goal.at.answer_job-requires c).Then-job-read c.if-job-read.true) c.in_default.is; in_bounds = c.requires.in_bounds; in_bounds_2 = c.requires.in_bounds_2 }
 
 pub returns-then-job-read : goal.returns-then-job-read
 returns-then-job-read c =
-    file-answered (job-told (goal.at.returns-then-job-read c).Then-job-read) c.in_default.is c.answer_job.ensures
+    file-answered (job-told (goal.at.returns-then-job-read c).Then-job-read c.if-job-read.true) c.in_default.is c.answer_job.ensures
 
 pub take_edits-edited-requires : goal.take_edits-edited-requires
 take_edits-edited-requires c =
