@@ -2,12 +2,11 @@
 -- for the output.
 use Prim.Native.Nat.{ℕ, zero, suc, ◌+◌, ◌-◌, ◌≤◌, ◌<◌}
 use mathlib.Core.Path.{◌≡◌, refl, sym, ◌∙◌, ap, subst, subst₂}
-use mathlib.Core.Bool.{Bool, true, false, cond}
+use mathlib.Core.Bool.{Bool, true}
 use mathlib.Core.List.{List, [], ◌∷◌}
 use native.Mathlib.Omega.{arith}
-use native.Mathlib.Numerals.{add-one, sub-one}
+use native.Mathlib.Numerals.{sub-one}
 use lib.ListN.{length, get_or}
-use lib.Dec.{eqb}
 use Rattle.chains.specs.Chain.{Chain}
 use Rattle.format.specs.Numbers.{small, answer_kind}
 use Rattle.format.specs.Simplex.{Simplex, Complex, sound_simplex, rising_from, all_below, simplices, lower, vertex_list}

@@ -1,16 +1,16 @@
 -- The members of a chain, written one behind the other: a run whose pieces are the members' bytes.
-use Prim.Native.Nat.{ℕ, zero, suc, ◌+◌, ◌-◌, ◌%◌, ◌/◌, ◌≤◌, ◌<◌}
+use Prim.Native.Nat.{ℕ, suc, ◌+◌, ◌-◌, ◌%◌, ◌/◌, ◌≤◌, ◌<◌}
 use mathlib.Core.Path.{◌≡◌, refl, sym, ◌∙◌, ap, ap₂, subst}
 use mathlib.Core.Bool.{Bool, true, false, cond}
-use mathlib.Core.List.{List, [], ◌∷◌, ◌++◌, append-nil, append_assoc}
+use mathlib.Core.List.{List, [], ◌∷◌, ◌++◌, append-nil}
 use native.Mathlib.Omega.{arith}
-use native.Mathlib.Nat.{add-zero, zero-add, mod-eq_of_lt}
+use native.Mathlib.Nat.{add-zero, zero-add}
 use native.Mathlib.Numerals.{add-one}
 use lib.ListN.{length, get_or, set, take, drop, length-append, length-take, length-map, take-append-drop}
 use lib.Seq.{take-suc, take_all}
 use Rattle.chains.specs.Chain.{Chain}
 use Rattle.format.specs.Simplex.{Simplex}
-use Rattle.format.specs.Answer.{members, members_from, refusal_record, u16_bytes, u32_bytes, record_of}
+use Rattle.format.specs.Answer.{members, members_from, refusal_record, u16_bytes, record_of}
 use Rattle.writer.specs.Splice.{splice, splice-nothing, splice-more, splice-byte}
 use Rattle.writer.specs.Meaning.{simplex_bytes, list_bytes, vertex_byte, header_of_size, Put}
 use Rattle.writer.proofs.Runs.{Run, run-starts, run-goes-on, run_ends, list_bytes-append}

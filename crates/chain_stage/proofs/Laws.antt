@@ -1,21 +1,20 @@
 -- What each outcome of the stage's tests comes to in the definitions.
 use Prim.Native.Nat.{ℕ, zero, suc, ◌+◌, ◌%◌, ◌≤◌, ◌<◌}
 use mathlib.Core.Path.{◌≡◌, refl, sym, ◌∙◌, ap, subst}
-use mathlib.Core.Bool.{Bool, true, false, not, ◌&&◌, ◌||◌, cond, and-false}
+use mathlib.Core.Bool.{Bool, false, and-false}
 use mathlib.Core.List.{List, [], ◌∷◌, map}
 use native.Mathlib.Omega.{arith}
 use lib.ListN.{length, get_or, take, length-take, length-map, get_or-map}
 use lib.Seq.{ext_get_or, get_or-take}
-use lib.Dec.{eqb, leb}
 use borrow.Author.Tests.{eqb-true, eq-eqb, ne_eqb, le-leb, lt-leb}
 use Rattle.format.specs.Numbers.{small, cut, wrong_kind, shape, header_bytes, chain_kind, walk_kind}
 use Rattle.format.specs.Simplex.{Simplex, SimplexSet, Complex, simplices, all_below}
-use Rattle.format.specs.Reading.{Reading, accepted, refused, ◌and_then◌, Header, ended, broken, whole, header_at, payload_at, Record, Chosen, record_from, record_at, may_ask, chain_fits, chosen_by, rising_below, positions_of, named, read_steps, steps, walk_chain, read_chain}
+use Rattle.format.specs.Reading.{Reading, accepted, refused, ended, broken, whole, header_at, payload_at, Record, record_from, record_at, may_ask, chain_fits, chosen_by, rising_below, positions_of, named, read_steps, steps, walk_chain, read_chain}
 use Rattle.format.specs.Opened.{whole-inside, payload-long}
-use Rattle.format.specs.Marks.{Once, among, named-marks}
+use Rattle.format.specs.Marks.{Once, named-marks}
 use Rattle.lists.specs.Verdicts.{reading_of, reading-both}
 use Rattle.lists.specs.declared.Verdict.{Verdict}
-use Rattle.lists.specs.declared.Verdict.TheVariants.{Fine, Refused}
+use Rattle.lists.specs.declared.Verdict.TheVariants.{Refused}
 use Rattle.format.proofs.Accepted.{record-fits}
 use Rattle.lists.specs.declared.Marks.{Marks}
 use Rattle.chosen.specs.Meaning.{PositionsRead, WalkRead}

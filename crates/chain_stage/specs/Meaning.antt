@@ -2,7 +2,7 @@
 use Rattle.std.specs.Prelude.{ℕ, ◌+◌, ◌≡◌, List}
 use Rattle.format.specs.Numbers.{small, header_bytes, chain_kind, walk_kind}
 use Rattle.format.specs.Simplex.{SimplexSet, Complex, simplices}
-use Rattle.format.specs.Reading.{Reading, accepted, refused, Record, Chosen, payload_at, read_chain}
+use Rattle.format.specs.Reading.{Reading, accepted, refused, Record, payload_at, read_chain}
 use Rattle.format.specs.Marks.{Once}
 use Rattle.lists.specs.Verdicts.{reading_of}
 use Rattle.lists.specs.declared.Verdict.TheVariants.{Fine}

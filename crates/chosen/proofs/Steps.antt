@@ -1,7 +1,7 @@
 -- Reading a walk: what is still to be checked and marked, together with what was, is always the whole.
-use Prim.Native.Nat.{ℕ, zero, suc, ◌+◌, ◌≤◌, ◌<◌}
+use Prim.Native.Nat.{ℕ, suc, ◌+◌, ◌≤◌, ◌<◌}
 use mathlib.Core.Path.{◌≡◌, refl, sym, ◌∙◌, ap, ap₂, subst}
-use mathlib.Core.Bool.{Bool, true, false, not, ◌||◌, cond, or-false, or-true}
+use mathlib.Core.Bool.{Bool, true, false, ◌||◌, cond, or-false, or-true}
 use mathlib.Core.List.{List, [], ◌∷◌}
 use native.Mathlib.Omega.{arith}
 use native.Mathlib.Nat.{add-zero, add_assoc}
@@ -9,11 +9,11 @@ use native.Mathlib.Numerals.{add-one}
 use native.Mathlib.Decide.{ℕ_discrete, dec_lt}
 use lib.ListN.{length, get_or, set, drop, replicate, length-set, length-replicate, drop_of_length-le}
 use lib.Seq.{drop-cons, get_or-set_same, get_or-set_other}
-use lib.Dec.{eqb, ltb}
+use lib.Dec.{ltb}
 use borrow.Author.Tests.{lt-ltb, le-ltb, eq-eqb, ne_eqb}
 use Rattle.format.specs.Numbers.{chain_item}
 use Rattle.format.specs.Simplex.{Simplex, same, rank, ranked, unlisted, listed}
-use Rattle.format.specs.Reading.{Reading, accepted, refused, ◌and_then◌, edge_between, steps_from, steps, read_steps, walk_chain}
+use Rattle.format.specs.Reading.{accepted, refused, edge_between, steps_from, steps, read_steps, walk_chain}
 use Rattle.format.specs.Listed.{is_ranked, listed-ranked, rank-stands}
 use Rattle.format.specs.Marks.{check_steps, steps_then, step-marks, Once}
 use Rattle.lists.specs.declared.Verdict.TheVariants.{Fine, Refused}

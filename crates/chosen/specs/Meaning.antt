@@ -1,10 +1,9 @@
 -- Marks by rank, as the places that a chain record names and as the edges that a walk uses.
-use Rattle.std.specs.Prelude.{ℕ, ◌+◌, ◌<◌, ◌≡◌, Bool, true, false, cond, List, [], length, get_or, ltb}
-use Rattle.format.specs.Simplex.{Simplex, SimplexSet, all_below}
-use Rattle.format.specs.Reading.{Reading, rising_below, positions_of, read_steps, steps, edge_between, walk_chain}
+use Rattle.std.specs.Prelude.{ℕ, ◌+◌, ◌<◌, ◌≡◌, true, false, cond, List, [], length, get_or, ltb}
+use Rattle.format.specs.Simplex.{Simplex, all_below}
+use Rattle.format.specs.Reading.{rising_below, positions_of, read_steps, steps, edge_between, walk_chain}
 use Rattle.format.specs.Marks.{among, Once}
 use Rattle.lists.specs.Verdicts.{reading_of}
-use Rattle.lists.specs.declared.Verdict.{Verdict}
 use Rattle.lists.specs.declared.Verdict.TheVariants.{Fine}
 use Rattle.chosen.specs.declared.ChainRead.{ChainRead}
 

@@ -1,22 +1,21 @@
 -- Facts that the proofs of the loops use. Each loop has a record of what holds at its head, with three laws: it holds
 -- at the start, a turn keeps it, and at the end it says what the contract asks.
-use Prim.Native.Nat.{ℕ, zero, suc, ◌+◌, ◌-◌, ◌*◌, ◌/◌, ◌%◌, ◌^◌, ◌≤◌, ◌<◌, min}
+use Prim.Native.Nat.{ℕ, zero, suc, ◌+◌, ◌-◌, ◌*◌, ◌/◌, ◌%◌, ◌^◌, ◌≤◌, ◌<◌}
 use mathlib.Core.Path.{◌≡◌, refl, sym, ap, ◌∙◌, subst}
 use mathlib.Core.Bool.{true, false}
-use mathlib.Core.List.{List, [], ◌∷◌, ◌++◌, append-nil}
+use mathlib.Core.List.{List, [], ◌∷◌, ◌++◌}
 use native.Mathlib.Nat.{one-mul, mod-eq_of_lt}
 use native.Mathlib.Numerals.{add-one}
 use native.Mathlib.Omega.{arith}
 use lib.Dec.{eqb}
-use lib.ListN.{length, get_or, set, take, drop, replicate, length-set, drop_of_length-le}
+use lib.ListN.{length, get_or, set, take, drop, replicate, length-set}
 use lib.Seq.{paste, paste-zero, paste-suc}
 use lib.Pow.{pow-lt}
 use lib.Bits.{bit_xor}
 use borrow.Author.Fill.{fill_more}
 use Rattle.columns.specs.Column.{bit, bit_at, chain_of, xor_bytes, cleared_front}
-use Rattle.columns.specs.ColumnLaws.{bit-zero}
 use Rattle.columns.specs.SlotLaws.{xor-nil}
-use Rattle.columns.specs.Search.{highest_below, highest-held, highest-not-held, highest-skip}
+use Rattle.columns.specs.Search.{highest_below, highest-held, highest-not-held}
 use Rattle.columns.specs.declared.Highest.TheVariants.{At}
 
 -- a one that is shifted by less than eight places stays in its byte

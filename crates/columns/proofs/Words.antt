@@ -1,6 +1,6 @@
 -- Laws of words: the bits of a number that is put together from bytes, its highest bit, and what they say of the column that
 -- the word was read from.
-use Prim.Native.Nat.{ℕ, zero, suc, ◌+◌, ◌-◌, ◌*◌, ◌/◌, ◌%◌, ◌^◌, ◌≤◌, ◌<◌}
+use Prim.Native.Nat.{ℕ, suc, ◌+◌, ◌-◌, ◌*◌, ◌/◌, ◌%◌, ◌^◌, ◌≤◌, ◌<◌}
 use mathlib.Core.Path.{◌≡◌, refl, sym, ap, ◌∙◌, subst}
 use mathlib.Core.Bool.{true, false, false≢true}
 use mathlib.Core.List.{List}
@@ -11,7 +11,7 @@ use lib.Dec.{eqb}
 use lib.ListN.{get_or}
 use lib.Pow.{pow_pos, pow-add, pow-lt, shr-shr, high, low, field, mod-mod-pow}
 use borrow.Author.Tests.{ne_eqb}
-use Rattle.columns.specs.Column.{bit, bit_at, chain_of}
+use Rattle.columns.specs.Column.{bit, bit_at}
 use Rattle.columns.specs.ColumnLaws.{bit-zero}
 use Rattle.columns.specs.Word.{WordAt, HighestBit}
 use Rattle.columns.specs.Search.{highest_below, highest-held, highest-not-held, highest-skip}

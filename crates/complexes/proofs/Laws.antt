@@ -1,10 +1,9 @@
 -- The lists of a complex by dimension, and their lengths.
-use Prim.Native.Nat.{ℕ, zero, suc, ◌≤◌, ◌<◌}
-use mathlib.Core.Path.{◌≡◌, refl, sym, ◌∙◌, ap}
-use mathlib.Core.List.{List, []}
+use Prim.Native.Nat.{ℕ, zero, suc, ◌<◌}
+use mathlib.Core.Path.{◌≡◌, refl}
+use mathlib.Core.List.{[]}
 use native.Mathlib.Omega.{arith}
-use Rattle.format.specs.Simplex.{Simplex, simplices, vertex_list}
-use Rattle.format.specs.Simplex as format
+use Rattle.format.specs.Simplex.{simplices, vertex_list}
 use Rattle.lists.specs.Meaning.{simplices_of}
 use Rattle.complexes.specs.Meaning.{complex_of, list_of}
 use Rattle.complexes.specs.declared.Complex.{Complex}

@@ -1,7 +1,7 @@
 -- What the head's test comes to, case by case of the question.
 use Prim.Native.Nat.{ℕ, ◌≤◌, ◌<◌}
 use mathlib.Core.Path.{◌≡◌, refl, sym, ◌∙◌, ap, subst}
-use mathlib.Core.Bool.{Bool, true, false, not, ◌&&◌, ◌||◌, and-false}
+use mathlib.Core.Bool.{Bool, true, false, ◌&&◌, ◌||◌, and-false}
 use mathlib.Core.List.{List}
 use mathlib.Core.Logic.{◌⊎◌, inl, inr}
 use native.Mathlib.Omega.{arith}
@@ -11,7 +11,7 @@ use borrow.Author.Tests.{eqb-true, eq-eqb, ne_eqb, le-leb, lt-leb}
 use Rattle.heads.specs.declared.Head.{Head}
 use Rattle.heads.specs.declared.HeadRead.TheVariants.{Sound, Bad}
 use Rattle.format.specs.Numbers.{small, bad_head}
-use Rattle.format.specs.Reading.{Reading, accepted, refused, read_head, dimension_fits, question_of, head_of, u16_at}
+use Rattle.format.specs.Reading.{accepted, refused, read_head, dimension_fits, question_of, head_of, u16_at}
 
 -- the question is one of the two, and d is within its range
 abbrev pub asks : ℕ → ℕ → Bool

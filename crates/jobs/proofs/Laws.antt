@@ -34,7 +34,6 @@ use Rattle.stages.specs.Meaning.{list_read, NothingRead}
 use Rattle.stages.specs.declared.ListRead.{ListRead}
 use Rattle.complexes.specs.Meaning.{job_of, complex_of, Marked}
 use Rattle.complexes.specs.declared.Complex.{Complex}
-use Rattle.complexes.specs.declared.Job.{Job}
 use Rattle.lent_lists.specs.Held.{complex_in, Held, EditsHeld}
 use Rattle.lent_lists.specs.declared.Counts.{Counts}
 use Rattle.lent_lists.specs.declared.Edited.{Edited}

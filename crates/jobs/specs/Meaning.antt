@@ -6,11 +6,10 @@ use Rattle.format.specs.Simplex as simplices
 use Rattle.format.specs.Reading.{Reading, accepted, ◌and_then◌, read_list, read_edits, dimension_fits, question_of}
 use Rattle.format.specs.Reading as format
 use Rattle.format.specs.Answer.{rows}
-use Rattle.format.specs.Sound.{SoundList, SoundComplex, SoundJob}
+use Rattle.format.specs.Sound.{SoundList, SoundJob}
 use Rattle.lists.specs.Verdicts.{reading_of}
 use Rattle.lists.specs.declared.Verdict.TheVariants.{Fine}
 use Rattle.heads.specs.declared.Head.{Head}
-use Rattle.heads.specs.Meaning.{head_of}
 use Rattle.complexes.specs.Meaning.{job_of, Marked}
 use Rattle.complexes.specs.declared.Job.{Job}
 use Rattle.lookup.specs.Indexed.{Keyed, Indexed}

@@ -1,7 +1,6 @@
 -- How many simplices of a dimension a complex has, by the counts of its lists.
 use Prim.Native.Nat.{ℕ, zero, suc}
 use mathlib.Core.Path.{◌≡◌, refl, sym, ap, ◌∙◌}
-use native.Mathlib.Omega.{arith}
 use lib.ListN.{length}
 use Rattle.format.specs.Simplex.{Complex, simplices}
 use Rattle.format.specs.Vertices.{length-vertices}

@@ -1,6 +1,6 @@
 -- What the edits leave in the arrays: nothing new where there are none, and else the lists that the complex has after them.
 use Prim.Native.Nat.{ℕ, ◌≤◌}
-use mathlib.Core.Path.{◌≡◌, refl, sym, ap, ◌∙◌, subst}
+use mathlib.Core.Path.{◌≡◌, sym, ap, ◌∙◌, subst}
 use mathlib.Core.List.{List}
 use native.Mathlib.Omega.{arith}
 use lib.ListN.{length}
@@ -21,7 +21,6 @@ use Rattle.edits.specs.Meaning.{EditsTaken}
 use Rattle.edits.specs.declared.EditsRead.{EditsRead}
 use Rattle.lent_lists.specs.Held.{complex_in, Room, Held, HoldsNow, EditsHeld}
 use Rattle.lent_lists.specs.declared.Counts.{Counts}
-use Rattle.lent_lists.specs.declared.Edited.{Edited}
 
 module _ {b : List ℕ} {at dim : ℕ} {marks : Marks} where
   pub editing-none : {v : ℕ} {c : Counts} {e_keys t_keys s_keys t_sides s_sides : List ℕ} → length b ≤ at

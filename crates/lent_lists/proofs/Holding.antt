@@ -1,10 +1,9 @@
 -- A sound complex that was put into the arrays is the one that they hold: its lists' numbers stand there, and the facets of its
 -- triangles and tetrahedra are listed, so that all sides were found.
-use Prim.Native.Nat.{ℕ, suc, ◌≤◌}
+use Prim.Native.Nat.{ℕ, suc}
 use mathlib.Core.Path.{◌≡◌, refl, sym, subst, subst₂}
 use mathlib.Core.List.{List}
 use native.Mathlib.Omega.{arith}
-use lib.ListN.{length}
 use Rattle.format.specs.Numbers.{small}
 use Rattle.format.specs.Simplex.{Simplex}
 use Rattle.format.specs.Simplex as format

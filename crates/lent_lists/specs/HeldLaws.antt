@@ -1,5 +1,5 @@
 -- How many simplices lent arrays hold, and that they are few.
-use Rattle.std.specs.Prelude.{ℕ, zero, suc, ◌≤◌, ◌≡◌, refl, List, length}
+use Rattle.std.specs.Prelude.{ℕ, zero, suc, ◌≤◌, refl, List, length}
 use Rattle.std.proofs.Common.{sym, arith}
 use Rattle.format.specs.Numbers.{small}
 use Rattle.format.specs.Simplex.{Complex, simplices}

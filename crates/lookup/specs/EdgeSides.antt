@@ -1,12 +1,12 @@
 -- "Vertices rank by number", so an edge's own number, of which they are the digits, is its sides.
-use Rattle.std.specs.Prelude.{ℕ, suc, ◌+◌, ◌*◌, ◌/◌, ◌%◌, ◌≤◌, ◌<◌, ◌≡◌, refl, true, List, [], ◌∷◌, length, get_or, ltb}
+use Rattle.std.specs.Prelude.{ℕ, ◌+◌, ◌*◌, ◌/◌, ◌%◌, ◌<◌, ◌≡◌, refl, true, List, [], ◌∷◌, length, get_or, ltb}
 use Rattle.std.proofs.Common.{arith, sym, ap, ◌∙◌, ltb-true}
 use Rattle.format.specs.Simplex.{Simplex, ranked, rank, vertex_list, sound_simplex, rising_from, all_below}
 use Rattle.format.specs.Listed.{and-true}
 use Rattle.format.specs.Lookup.{first-ranked, stands-listed}
 use Rattle.format.specs.Sound.{SoundList}
 use Rattle.format.specs.Vertices.{length-vertices, vertex-at}
-use Rattle.keys.specs.Number.{digit, number, Digits, none, more, number-none, number_more}
+use Rattle.keys.specs.Number.{digit, Digits, more, number-none, number_more}
 use Rattle.lookup.specs.Indexed.{NumberOf, Keyed}
 use Rattle.lookup.specs.Sides.{Sides, Sided}
 use Rattle.lookup.specs.Sides as sides

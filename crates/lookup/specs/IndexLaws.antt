@@ -1,7 +1,7 @@
 -- Why a list is looked up by its keys: in a proper list the simplex with a number is the only one, so the last place that
 -- holds the number is the rank.
-use Rattle.std.specs.Prelude.{ℕ, zero, suc, ◌+◌, ◌-◌, ◌*◌, ◌≤◌, ◌<◌, ◌≡◌, refl, Bool, true, false, cond, List, [], ◌∷◌, ◌++◌, eqb, length, take, get_or, set, replicate}
-use Rattle.std.proofs.Common.{sym, ap, ◌∙◌, subst, arith, add-one, length-append, length-set, get_or-set_same, get_or-set_other, take-suc, take_all, eq-eqb, eqb-true}
+use Rattle.std.specs.Prelude.{ℕ, suc, ◌+◌, ◌*◌, ◌≤◌, ◌<◌, ◌≡◌, refl, Bool, true, false, cond, List, [], ◌∷◌, ◌++◌, eqb, length, take, get_or, set, replicate}
+use Rattle.std.proofs.Common.{sym, ap, ◌∙◌, subst, arith, add-one, length-append, get_or-set_same, get_or-set_other, take-suc, take_all, eq-eqb, eqb-true}
 use Rattle.std.proofs.Math.Decide.{ℕ_discrete}
 use Rattle.std.proofs.lemmas.List.{length-replicate}
 use Rattle.std.proofs.Math.ListN.{get_or-append}
@@ -11,7 +11,7 @@ use Rattle.format.specs.Listed.{StandsAt, rank-stands, same-equal, true-not-fals
 use Rattle.format.specs.Lookup.{first-ranked, stands-listed}
 use Rattle.format.specs.Sound.{SoundList, copies, copies-append, unlisted-copies, one_place}
 use Rattle.keys.specs.Chained.{Chained, Linked, last_below, buckets, last_within, last-passes, last_none, chained-none}
-use Rattle.keys.specs.Number.{digit, number, Digits, number_same, number-four, digits-four}
+use Rattle.keys.specs.Number.{digit, number, number_same, number-four, digits-four}
 use Rattle.lookup.specs.Indexed.{Proper, NumberOf, Keyed, Indexed, Blank, Entered}
 
 -- A simplex's number, from its four places.

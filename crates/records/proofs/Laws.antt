@@ -1,13 +1,13 @@
 -- What the definitions come to, case by case: past the end numbers are 0, and a header is what its tests say.
-use Prim.Native.Nat.{ℕ, ◌+◌, ◌*◌, ◌-◌, ◌≤◌, ◌<◌}
-use mathlib.Core.Path.{◌≡◌, refl, sym, ◌∙◌, ap, ap₂}
-use mathlib.Core.List.{List, []}
+use Prim.Native.Nat.{ℕ, ◌+◌, ◌-◌, ◌≤◌, ◌<◌}
+use mathlib.Core.Path.{◌≡◌, sym, ◌∙◌, ap}
+use mathlib.Core.List.{List}
 use native.Mathlib.Omega.{arith}
 use lib.ListN.{length, get_or, take, drop, get_or-eq_default, drop_of_length-le, length-drop}
 use lib.Seq.{take_all, take-nil, drop-length}
 use native.Mathlib.Nat.{add-sub_cancel_left}
 use borrow.Author.Tests.{le-leb, lt-leb, lt-ltb, le-ltb}
-use Rattle.format.specs.Reading.{Header, ended, broken, whole, u16_at, u32_at, header_at, payload_at}
+use Rattle.format.specs.Reading.{ended, broken, whole, u16_at, u32_at, header_at, payload_at}
 
 pub past-byte : (b : List ℕ) (at : ℕ) → length b ≤ at → get_or b at 0 ≡ 0
 past-byte b at h = get_or-eq_default b 0 h

@@ -8,7 +8,7 @@ use mathlib.Core.Path.{◌≡◌, sym, ap, ◌∙◌, subst, fun_ext}
 use mathlib.Core.Bool.{Bool, true, false, true≢false, false≢true}
 use mathlib.Core.List.{List, []}
 use lib.ListN.{length, get_or, replicate}
-use Rattle.chains.specs.Chain.{◌⊕◌, empty, only, boundary}
+use Rattle.chains.specs.Chain.{◌⊕◌, only, boundary}
 use Rattle.chains.specs.Sum.{sum-empty}
 use Rattle.chains.specs.Boundary.{boundary-under}
 use Rattle.format.specs.Simplex.{Simplex, columns}

@@ -16,7 +16,7 @@ use Rattle.format.specs.Items.{items-none}
 use Rattle.format.specs.Opened.{opened_from, opened, record-opened, opened_inside, payload-long}
 use Rattle.format.specs.Sound.{AllSound}
 use Rattle.lists.specs.declared.Verdict.{Verdict}
-use Rattle.lists.specs.declared.Verdict.TheVariants.{Fine, Refused}
+use Rattle.lists.specs.declared.Verdict.TheVariants.{Refused}
 use Rattle.lists.specs.Verdicts.{reading_of, reading-then}
 use Rattle.lookup.specs.Indexed.{Proper, Blank, Indexed}
 use Rattle.lookup.specs.IndexLaws.{proper-none, indexed-none}

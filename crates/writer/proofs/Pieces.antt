@@ -1,18 +1,16 @@
 -- Piece behind piece: two bytes make a number, numbers make a header, and a loop's pieces add up to the whole.
-use Prim.Native.Nat.{ℕ, zero, suc, ◌+◌, ◌%◌, ◌/◌, ◌≤◌, ◌<◌}
-use mathlib.Core.Path.{◌≡◌, refl, sym, ◌∙◌, ap, ap₂, subst}
-use mathlib.Core.Bool.{Bool, true, false}
-use mathlib.Core.List.{List, [], ◌∷◌, ◌++◌, map, append-nil, append_assoc, map-append}
+use Prim.Native.Nat.{ℕ, zero, suc, ◌+◌, ◌%◌, ◌≤◌, ◌<◌}
+use mathlib.Core.Path.{◌≡◌, refl, sym, ◌∙◌, ap}
+use mathlib.Core.List.{List, [], ◌∷◌, ◌++◌, map}
 use native.Mathlib.Omega.{arith}
-use native.Mathlib.Nat.{add-zero, zero-add, add_assoc}
+use native.Mathlib.Nat.{add-zero}
 use native.Mathlib.Numerals.{add-one}
-use lib.ListN.{length, get_or, take, drop, set, length-append, length-take, length-map, length-set}
+use lib.ListN.{length, get_or, take, set, length-take, length-map, length-set}
 use lib.Seq.{take-suc, take_all, get_or-take}
 use Rattle.format.specs.Simplex.{Simplex}
 use Rattle.format.specs.Answer.{u16_bytes}
-use Rattle.format.specs.Writing.{places_from, position_bytes}
-use Rattle.writer.specs.Splice.{splice, splice-nothing, splice-more, splice-byte, length-splice}
-use Rattle.writer.specs.Meaning.{vertex_byte, simplex_bytes, list_bytes, header_of_size, mark_bytes, Put}
+use Rattle.writer.specs.Splice.{splice, splice-nothing, splice-more, splice-byte}
+use Rattle.writer.specs.Meaning.{vertex_byte, simplex_bytes}
 
 pub two_bytes : (l : List ℕ) (at a b : ℕ) → at + 2 ≤ length l → set (set l at a) (at + 1) b ≡ splice l at (a ∷ b ∷ [])
 two_bytes l at a b h =

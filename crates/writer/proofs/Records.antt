@@ -1,14 +1,14 @@
 -- Records and the whole job: a header in front of its payload, and record behind record.
-use Prim.Native.Nat.{ℕ, zero, suc, ◌+◌, ◌-◌, ◌*◌, ◌%◌, ◌/◌, ◌≤◌, ◌<◌}
-use mathlib.Core.Path.{◌≡◌, refl, sym, ◌∙◌, ap, ap₂, subst}
+use Prim.Native.Nat.{ℕ, ◌+◌, ◌-◌, ◌*◌, ◌%◌, ◌/◌, ◌≤◌, ◌<◌}
+use mathlib.Core.Path.{◌≡◌, refl, sym, ◌∙◌, ap, ap₂}
 use mathlib.Core.Bool.{Bool, true, false}
 use mathlib.Core.List.{List, [], ◌∷◌, ◌++◌, append_assoc}
 use native.Mathlib.Omega.{arith}
 use native.Mathlib.Nat.{add-sub_cancel_left, zero-add, add-mul-mod_self_left, mod-eq_of_lt}
 use native.Mathlib.Numerals.{add-one}
-use lib.ListN.{length, get_or, take, drop, length-append, length-take, length-drop}
+use lib.ListN.{length, get_or, take, drop, length-append, length-take}
 use lib.Seq.{take-append-le, take-take, drop_at, take-suc}
-use Rattle.format.specs.Answer.{u16_bytes, u32_bytes, record_of}
+use Rattle.format.specs.Answer.{u16_bytes, record_of}
 use Rattle.format.specs.Writing.{places_from}
 use Rattle.writer.specs.Splice.{splice, splice-more, length-splice}
 use Rattle.writer.specs.Meaning.{header_of_size, Put}

@@ -1,5 +1,5 @@
 -- The bytes that the writer puts out, piece by piece.
-use Rattle.std.specs.Prelude.{ℕ, zero, suc, ◌+◌, ◌%◌, ◌≤◌, ◌≡◌, Bool, List, [], ◌∷◌, ◌++◌, map, length, take}
+use Rattle.std.specs.Prelude.{ℕ, ◌+◌, ◌%◌, ◌≡◌, Bool, List, [], ◌∷◌, ◌++◌, map, length, take}
 use Rattle.format.specs.Simplex.{Simplex}
 use Rattle.format.specs.Numbers.{head_kind, edges_kind, triangles_kind, tetrahedra_kind, chain_kind}
 use Rattle.format.specs.Answer.{u16_bytes, u32_bytes, record_of}

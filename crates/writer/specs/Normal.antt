@@ -1,19 +1,18 @@
 -- The bytes that are put out are the normal form of the job. Why: a sound vertex number is below 256, so it is its own
 -- byte, and the marks of the first ranks are A's members.
-use Rattle.std.specs.Prelude.{ℕ, zero, suc, ◌+◌, ◌*◌, ◌%◌, ◌≤◌, ◌<◌, ◌≡◌, refl, Bool, true, false, ◌&&◌, List, [], ◌∷◌, ◌++◌, map, length, take, ltb}
-use Rattle.std.proofs.Common.{sym, ◌∙◌, ap, ap₂, subst, arith, mod-eq_of_lt, ltb-true}
+use Rattle.std.specs.Prelude.{ℕ, ◌≤◌, ◌<◌, ◌≡◌, refl, true, List, [], ◌∷◌, ◌++◌, length, ltb}
+use Rattle.std.proofs.Common.{sym, ap, ap₂, arith, mod-eq_of_lt, ltb-true}
 use Rattle.std.proofs.Math.Bool.{or-true}
-use Rattle.format.specs.Numbers.{Limits, small, edges_kind, triangles_kind, tetrahedra_kind, chain_kind, head_kind}
-use Rattle.format.specs.Simplex.{Simplex, SimplexSet, sound_simplex, rising_from, all_below, listed, same}
+use Rattle.format.specs.Numbers.{small, edges_kind, triangles_kind, tetrahedra_kind, chain_kind, head_kind}
+use Rattle.format.specs.Simplex.{Simplex, SimplexSet, sound_simplex, rising_from, all_below, listed}
 use Rattle.format.specs.Reading.{question_byte, question_of}
 use Rattle.format.specs.Answer.{record_of, u16_bytes, vertices_of, rows}
 use Rattle.format.specs.Writing.{places_from, position_bytes, normal_form}
 use Rattle.format.specs.Listed.{and-true, same_refl}
-use Rattle.format.specs.Sound.{SoundList, SoundJob}
-use Rattle.lists.specs.Meaning.{simplices_of}
+use Rattle.format.specs.Sound.{SoundJob}
 use Rattle.complexes.specs.Meaning.{job_of, complex_of, Marked}
 use Rattle.complexes.specs.declared.Job.{Job}
-use Rattle.writer.specs.Meaning.{vertex_byte, simplex_bytes, list_bytes, mark_bytes, head_record, job_bytes}
+use Rattle.writer.specs.Meaning.{simplex_bytes, list_bytes, job_bytes}
 
 -- numbers below v, v at most 256, are their own bytes
 own-bytes : (v : ℕ) (s : Simplex) → v ≤ 256 → all_below v s ≡ true → simplex_bytes s ≡ s

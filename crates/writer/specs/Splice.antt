@@ -1,7 +1,7 @@
 -- Bytes put into lent memory at a place: those before and behind keep their values. Written piece by piece, the pieces
 -- add up.
-use Rattle.std.specs.Prelude.{ℕ, zero, suc, ◌+◌, ◌≤◌, ◌<◌, ◌≡◌, refl, List, [], ◌∷◌, ◌++◌, length, take, drop, set}
-use Rattle.std.proofs.Common.{sym, ◌∙◌, ap, ap₂, append-nil, append_assoc, arith, add-zero, zero-add, add_assoc, add-one, length-append, length-take, length-drop, take-append-drop, take_at, drop_at, drop-drop, drop-cons}
+use Rattle.std.specs.Prelude.{ℕ, suc, ◌+◌, ◌≤◌, ◌<◌, ◌≡◌, List, [], ◌∷◌, ◌++◌, length, take, drop, set}
+use Rattle.std.proofs.Common.{sym, ◌∙◌, ap, ap₂, append-nil, append_assoc, arith, add-zero, length-append, length-take, length-drop, take-append-drop, take_at, drop_at, drop-drop, drop-cons}
 use Rattle.std.proofs.lemmas.List.{set_at}
 use Rattle.std.proofs.Math.Seq.{append_snoc}
 

@@ -3,10 +3,9 @@
 use native.Mathlib.Omega.{arith}
 use Prim.Native.Nat.{◌≤◌}
 use lib.ListN.{length}
-use mathlib.Core.Path.{◌≡◌, ◌∙◌}
+use mathlib.Core.Path.{◌∙◌}
 use Rattle.format.specs.Numbers.{small}
 use Rattle.format.specs.Reading.{reading}
-use Rattle.lists.specs.declared.Verdict.TheVariants.{Fine}
 use Rattle.jobs.specs.Meaning.{Told}
 use Rattle.jobs.specs.Known.{unedited-refusal, unedited-told, told-refusal, told_asking}
 use Rattle.answering.proofs.Told.{file-refused, file-answered}

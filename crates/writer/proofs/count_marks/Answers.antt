@@ -1,7 +1,6 @@
 -- `writer::count_marks` meets its contract: the count is that of the marks passed.
 use native.Mathlib.Omega.{arith}
 use mathlib.Core.Path.{◌≡◌, refl, ◌∙◌, ap}
-use mathlib.Core.Logic.{⊎_elim}
 use lib.ListN.{length, take}
 use Rattle.format.specs.Writing.{places_from}
 use Rattle.writer.proofs.Records.{counts-one, counts-none}
