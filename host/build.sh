@@ -1,7 +1,6 @@
 # shellcheck shell=sh
 # Sourced by host/run-tests, host/run-bench and host/run-profile: what to compile
-# with, what to run with, and the library.  The library is x86-64; elsewhere its
-# programs are built with a cross compiler and run under the kit's emulator.
+# with, and the library, which is for x86-64.
 
 script=$(basename "$0")
 caller=$PWD
@@ -40,26 +39,12 @@ wanted() {
     command -v "$wanted_command" >/dev/null || die "'$wanted_command' is missing (packages: $*)"
 }
 
-# The kit's folder holds docs/, and 'rt doc' prints a file in there.
-find_emulator() {
-    command -v rt >/dev/null || die "'rt' is not on the PATH; it is needed to find the emulator"
-    guide=$(rt doc) || die "'rt doc' failed; it is needed to find the emulator"
-    emulator=$(dirname "$(dirname "$guide")")/on/aarch64/toolchain/bin/qemu-x86_64
-    [ -x "$emulator" ] || die "the kit has no emulator at $emulator"
-}
-
 # shellcheck disable=SC2034 # the C++ compiler is for the scripts that want one
 pick_tools() {
     case $(uname -m) in
     x86_64 | amd64)
-        cc=gcc cxx=g++ cxx_package=g++ linking="" emulator=""
+        cc=gcc cxx=g++ cxx_package=g++
         wanted "$cc" gcc libc6-dev
-        ;;
-    aarch64 | arm64)
-        cc=x86_64-linux-gnu-gcc cxx=x86_64-linux-gnu-g++ cxx_package=g++-x86-64-linux-gnu
-        linking=-static
-        find_emulator
-        wanted "$cc" gcc-x86-64-linux-gnu libc6-dev-amd64-cross
         ;;
     *)
         die "no way is known to run x86-64 programs on $(uname -m)"
@@ -69,7 +54,7 @@ pick_tools() {
 
 prepare() {
     pick_tools
-    [ -f "$library" ] || die "$library is missing: run 'rt staticlib mvozelanke' first"
+    [ -f "$library" ] || die "$library is missing: run 'tools/staticlib' first"
     mkdir -p "$out" || die "cannot make the folder $out"
 }
 
@@ -77,8 +62,8 @@ prepare() {
 build() {
     program=$1
     shift
-    # shellcheck disable=SC2086 # flags and linking are several words, or none
-    "$cc" -std=c11 $flags $linking -pthread "$@" "$library" -o "$out/$program" \
+    # shellcheck disable=SC2086 # flags are several words
+    "$cc" -std=c11 $flags -pthread "$@" "$library" -o "$out/$program" \
         || die "$program does not build"
 }
 
@@ -86,5 +71,5 @@ build() {
 run() {
     program=$1
     shift
-    ${emulator:+"$emulator"} "$out/$program" "$@"
+    "$out/$program" "$@"
 }
