@@ -1,5 +1,4 @@
--- Each bench job's record is the one and only record that the promise allows. Why: the answer of a file can be computed
--- (crate format, Outcome), the computed one is compared with the table's byte by byte, and no file has two answers.
+-- What is shown of each bench job: its record is the one and only one that the promise allows. Proved in proofs/Table.
 use Rattle.std.specs.Prelude.{ℕ, ◌≡◌, Bool, true, ◌&&◌, List, [], ◌∷◌}
 use Rattle.format.specs.Numbers.{small}
 use Rattle.format.specs.Simplex.{same}

@@ -1,3 +1,2 @@
+// The bench jobs P1 to P12 of document 01, from bytes to bytes: the jobs in specs/, their proof in proofs/, no code.
 #![tactic(auto)]
-
-// The bench jobs P1 to P12 of document 01, proved from bytes to bytes in specs/: no code.

@@ -1,5 +1,4 @@
--- Why: two fillings of A differ by a cycle, and two chains of one class by a boundary. Cycles form a group, and so do
--- boundaries, so the smallest filling and the smallest chain of a class are the ones free of cycles and of boundaries.
+-- What the theorems on fillings and classes (proofs/Homology) speak of: cycles and boundaries.
 use Rattle.std.specs.Prelude.{ℕ, ◌≡◌}
 use Rattle.chains.specs.Chain.{Chain, empty, Under, boundary}
 

@@ -1,6 +1,5 @@
--- Why: where the chains with a property differ by the members of a group K, a chain that holds the top rank of some
--- member of K becomes smaller by adding that member. And where it holds no such rank, any other chain with the property
--- differs from it at such a rank first, and so is larger. Document 001 calls such a chain irreducible (its Lemma 1).
+-- What the theorems on smallest chains (proofs/Smallest) speak of: groups of chains, chains that differ by a group, and
+-- chains that hold no highest rank of a member.
 use Rattle.std.specs.Prelude.{ℕ, ◌≡◌, false}
 use Rattle.chains.specs.Chain.{Chain, ◌⊕◌, empty, Under, Top}
 

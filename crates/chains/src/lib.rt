@@ -1,3 +1,2 @@
+// The mathematics of chains over Z/2: definitions in specs/, theorems in specs/ and proofs/, no code.
 #![tactic(auto)]
-
-// The mathematics of chains over Z/2: definitions and theorems in specs/, no code.

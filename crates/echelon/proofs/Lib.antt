@@ -1,5 +1,5 @@
--- The reduction of a boundary matrix over Z/2, as functions on chains: slots keyed by their highest row, filled column by
--- column, and what they answer. For the programs that do this on bytes: `Loops` gathers what their proofs need.
+-- Theorems about the definitions of specs/ that fall where a must-fail edit changes one of them. They stand here, so that the
+-- edited definition still reads and is refused by what no longer holds of it.
 -- the reduction of one chain by slots, a pure function
 pub mod Reduce
 -- the slots after some columns, as a record of facts
@@ -10,7 +10,7 @@ pub mod Reducing
 pub mod Insert
 -- the smallest filling and the smallest chain of a class
 pub mod Answer
--- the lemmas by the place of the loop that needs them
+-- the lemmas by the place of the loop that needs them, for the programs that do this on bytes
 pub mod Loops
 -- the loops as functions on chains: the lemmas suffice
 pub mod Run

@@ -1,6 +1,4 @@
--- Why: once all columns were put in, the columns collected while A is reduced to nothing fill A, and none of them is the
--- highest of a cycle, so they are the smallest filling. A chain that bounds has the row of an occupied slot as its highest,
--- so a chain that was reduced by all slots holds no such row, and is the smallest of its class.
+-- A chain on its way to the smallest of its class. Where both questions end is in proofs/Answer.
 use Rattle.std.specs.Prelude.{ℕ, ◌≡◌}
 use Rattle.chains.specs.Chain.{Chain}
 use Rattle.echelon.specs.Reduce.{reduce}

@@ -1,6 +1,4 @@
--- Why: each slot holds a sum of columns, with its own row as the highest, so a chain that is stuck at a row with a vacant
--- slot keeps that row whatever is added below. And each column reduces to nothing, hence so does every sum of columns:
--- a chain that gets stuck is no boundary.
+-- The slots after some columns were put in, as a record of facts. What follows from them is in proofs/Echelon.
 use Rattle.std.specs.Prelude.{ℕ, ◌<◌, ◌≡◌, false}
 use Rattle.chains.specs.Chain.{Chain, empty, Under, boundary}
 use Rattle.chains.specs.Smallest.{Free}

@@ -1,6 +1,4 @@
--- Why: a column that reduces to nothing is a sum of lower ones, and the slots already make all such sums. A column that
--- gets stuck at a vacant slot is no sum of lower ones, so no cycle has it as its highest, and what is left of it may be
--- kept in that slot.
+-- A column that is put into its slot. That the slots then make one column more is in proofs/Insert.
 use Rattle.std.specs.Prelude.{ℕ, ◌<◌, ◌≡◌, ◌≢◌}
 use Rattle.chains.specs.Chain.{Chain}
 

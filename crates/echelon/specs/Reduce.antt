@@ -1,5 +1,4 @@
--- Why: to reduce a chain of rows is to go through the rows from the highest down and, at each row that the chain holds,
--- to add what the slot of that row holds. No slot holds a row above its own, so a row that was dealt with stays as it is.
+-- The reduction of one chain by slots. Its laws are in proofs/Reduce.
 use Rattle.std.specs.Prelude.{ℕ, zero, suc, ◌<◌, ◌≡◌, false}
 use Rattle.chains.specs.Chain.{Chain, ◌⊕◌, only}
 

@@ -1,5 +1,4 @@
--- Why: to add a slot to a chain that is being reduced adds its columns to those collected on the way, and these are
--- free of cycles as the slot's are. So at every row the two sides fit together.
+-- A reduction under way, with the columns collected. Its start and its turns are in proofs/Reducing.
 use Rattle.std.specs.Prelude.{ℕ, ◌≡◌}
 use Rattle.chains.specs.Chain.{Chain, ◌⊕◌, empty, unit, Under, boundary}
 use Rattle.chains.specs.Smallest.{Free}

@@ -1,5 +1,4 @@
--- Every job that was read is sound. Why: each stage of the reading was accepted, so each of its tests was passed; and an
--- edit only changes the order of one list.
+-- What the theorems on accepted jobs (proofs/Accepted) speak of: lists in another order.
 use Rattle.std.specs.Prelude.{ℕ, ◌≡◌, List}
 use Rattle.format.specs.Simplex.{Simplex, Complex}
 use Rattle.format.specs.Reading.{moved}

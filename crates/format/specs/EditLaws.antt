@@ -1,5 +1,4 @@
--- Laws of the edits, for the code that reads them: an edit concerns one list, and the edits of a file are read one by
--- one. Each law is one outcome of the definition's tests.
+-- What the laws of the edits (proofs/EditLaws) speak of: an edit of one list.
 use Prim.Native.Nat.{ℕ, ◌+◌, ◌≤◌, ◌<◌}
 use Rattle.std.proofs.Math.Path.{◌≡◌}
 use Rattle.std.specs.Prelude.{not, List, length, leb}

@@ -35,7 +35,7 @@ pub mod Places
 pub mod Results
 -- what is known of an answer's members
 pub mod Members
--- demand 3 about sets of simplices: its definitions, their laws, and the theorems
+-- demand 3 about sets of simplices: its definitions, and what their laws speak of
 pub mod Sets
 pub mod SetLaws
 pub mod SetBoundary

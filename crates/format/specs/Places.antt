@@ -1,5 +1,4 @@
--- A refusal's number is one of 1 to 11, and its place lies within the file. Why: each check gives its own number, each record
--- begins where the one before it ends, and each item lies in its record.
+-- What the theorems on refusals (proofs/Places) speak of: a number of 1 to 11 and a place within the file.
 use Rattle.std.specs.Prelude.{ℕ, ◌≤◌, ◌≡◌}
 use Rattle.format.specs.Reading.{Reading, refused}
 

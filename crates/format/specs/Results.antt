@@ -1,5 +1,4 @@
--- What a caller can read off an outcome: the write call's result taken apart, and a refusal's record. Why nothing is lost: a
--- refusal's number is 1 to 14, and places and lengths are no more than the longest job's.
+-- What a caller reads off the write call's result: it is taken apart. That nothing is lost is in proofs/Results.
 use Rattle.std.specs.Prelude.{ℕ, ◌/◌, ◌%◌, ◌^◌, ◌≡◌}
 
 -- the two numbers that a result holds

@@ -1,5 +1,4 @@
--- The boundary of a set of simplices is the boundary of its chain. Why: the facets of a rising simplex differ from one
--- another, so the sum of its facets holds each of them, and the rows hold no simplex twice.
+-- What the theorems on boundaries of sets (proofs/SetBoundary) speak of: two lists, one a dimension below the other.
 use Rattle.std.specs.Prelude.{◌≡◌, true, List, []}
 use Rattle.format.specs.Simplex.{Simplex, rising_from, listed}
 use Rattle.format.specs.Marks.{Once}

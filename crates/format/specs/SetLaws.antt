@@ -1,5 +1,4 @@
--- Sets of simplices and chains of ranks are the same thing said twice. Why: no list holds a simplex twice, so a simplex
--- of the list has one rank and a rank one simplex. So sum, order, record and the smallest are the same on both sides.
+-- What the theorems on sets and chains (proofs/SetLaws) speak of: the set of a chain.
 use Rattle.std.specs.Prelude.{Bool, false, List}
 use Rattle.chains.specs.Chain.{Chain}
 use Rattle.format.specs.Simplex.{Simplex, SimplexSet, Rank, ranked, unlisted, rank}

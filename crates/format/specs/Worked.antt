@@ -1,4 +1,5 @@
--- Two worked jobs on which wrong readings of document 01 differ from the right one, computed from their bytes.
+-- Two worked jobs on which wrong readings of document 01 differ from the right one. What they are read as is
+-- computed from their bytes in proofs/Worked.
 use Rattle.std.specs.Prelude.{ℕ, ◌≡◌, Bool, true, false, List, [], ◌∷◌, ◌++◌}
 use Rattle.format.specs.Numbers.{small}
 use Rattle.format.specs.Simplex.{Simplex, same, sound_simplex, rising_from, all_below, listed, all_listed, facets, simplices, vertex_list}
