@@ -1,14 +1,12 @@
 /*
- * How long an answer takes: the whole call, reading included, against the plain C of
- * the checker (reading included), against what one would use in the library's place
- * (plain C that reads the job by hash, then PHAT), and against PHAT's reduction alone
- * of the same matrix, or of the whole complex's (PHAT looks for no filling).
+ * How long an answer takes: the whole call, reading included, against the plain
+ * C of the checker (reading included) and against PHAT's reduction of the same
+ * matrix, or of the whole complex's (no reading, and PHAT looks for no filling).
  * Then, in a second table, how long reading alone takes.
  *
  *   bench [ROUNDS]
  *
- * Each time is the best of ROUNDS rounds.  Library, plain C and PHAT must agree on
- * each job.
+ * Each time is the best of ROUNDS rounds.  All three must agree on each job.
  */
 #include <stdio.h>
 #include <stdlib.h>
@@ -24,7 +22,7 @@
 
 enum { ROUNDS = 60, ROUNDS_MOST = 1000000 };
 
-/* ---- the ways to an answer ---- */
+/* ---- the three ways ---- */
 
 struct answer {
     uint8_t record[MVZ_OUT_ROOM];
@@ -69,54 +67,33 @@ static double time_plain(const struct draft_job *job, struct answer *answer)
  * hash, and clear the work memory.  The pointer keeps the compiler from leaving out a
  * clearing that nobody looks at.
  */
-static void do_least(const struct draft_job *job)
+static double time_least(const struct draft_job *job)
 {
     static uint8_t work[MVZ_WORK_ROOM];
     static struct plain_job read;
     void *(*volatile clear)(void *, int, size_t) = memset;
+    double begin = now();
     struct verdict verdict = plain_read(job->bytes, job->length, &read);
     clear(work, 0, sizeof work);
+    double seconds = now() - begin;
     if (verdict.refusal != 0) {
         fprintf(stderr, "bench: the fast C reader refuses a job\n");
         exit(1);
     }
+    return seconds;
 }
 
-static double time_least(const struct draft_job *job)
+static double time_phat(const struct shape *shape, enum phat_matrix which, bool *bounds)
 {
-    double begin = now();
-    do_least(job);
-    return now() - begin;
-}
-
-/*
- * The better of PHAT's two reductions, of a matrix that is made before the clock
- * starts.  Where a job is given, `least` is done to it first, within the same time: the
- * two are timed in one go, and not added up from two best times, so that the reduction
- * finds the caches as the reader left them.
- */
-static double time_phat(const struct shape *shape, enum phat_columns columns,
-                        const struct draft_job *read_first, bool *bounds)
-{
-    static const enum phat_way ways[] = {PHAT_STANDARD, PHAT_TWIST};
-    double best = 1e9;
-    for (unsigned i = 0; i < sizeof ways / sizeof ways[0]; i++) {
-        struct phat_matrix *matrix = phat_make(shape, columns);
-        double begin = now();
-        if (read_first != NULL)
-            do_least(read_first);
-        phat_reduce(matrix, ways[i]);
-        keep_best(&best, now() - begin);
-        *bounds = phat_bounds(matrix);
-        phat_free(matrix);
-    }
-    return best;
+    double standard = phat_reduce(shape, which, PHAT_STANDARD, bounds);
+    double twist = phat_reduce(shape, which, PHAT_TWIST, bounds);
+    return standard < twist ? standard : twist;
 }
 
 /* ---- one row ---- */
 
 struct times {
-    double library, writing, plain, least, phat, instead, whole;
+    double library, writing, plain, least, phat, whole;
 };
 
 static void insist_on_one_answer(const struct answer *a, const struct answer *b, bool bounds)
@@ -124,7 +101,7 @@ static void insist_on_one_answer(const struct answer *a, const struct answer *b,
     bool alike = a->length == b->length && memcmp(a->record, b->record, a->length) == 0
               && bounds == (a->record[4] == MVZ_KIND_ANSWER);
     if (!alike) {
-        fprintf(stderr, "bench: library, plain C and PHAT do not agree\n");
+        fprintf(stderr, "bench: the three ways do not agree\n");
         exit(1);
     }
 }
@@ -135,16 +112,14 @@ static void measure(const struct shape *shape, unsigned rounds, struct times *be
     shape_job(shape, &job);
     for (unsigned i = 0; i < rounds; i++) {
         struct answer by_library, by_plain;
-        bool bounds, bounds_instead, bounds_in_whole;
+        bool bounds, bounds_in_whole;
         keep_best(&best->library, time_library(&job, &by_library));
         keep_best(&best->writing, time_writing(&job));
         keep_best(&best->plain, time_plain(&job, &by_plain));
         keep_best(&best->least, time_least(&job));
-        keep_best(&best->phat, time_phat(shape, PHAT_ASKED, NULL, &bounds));
-        keep_best(&best->instead, time_phat(shape, PHAT_ASKED, &job, &bounds_instead));
-        keep_best(&best->whole, time_phat(shape, PHAT_WHOLE, NULL, &bounds_in_whole));
+        keep_best(&best->phat, time_phat(shape, PHAT_ASKED, &bounds));
+        keep_best(&best->whole, time_phat(shape, PHAT_WHOLE, &bounds_in_whole));
         insist_on_one_answer(&by_library, &by_plain, bounds);
-        insist_on_one_answer(&by_library, &by_plain, bounds_instead);
         insist_on_one_answer(&by_library, &by_plain, bounds_in_whole);
     }
 }
@@ -154,10 +129,10 @@ static void measure(const struct shape *shape, unsigned rounds, struct times *be
 static void print_row(const char *name, const struct shape *shape, struct times t,
                       const struct times *smaller)
 {
-    printf("%-16s %4u %5u %8.1f %6.1f %8.1f %6.1f %7.1f %10.1f %7.1f %16.2f %8.2f %9.2f %6.2f",
-           name, shape->triangles, shape->edges, t.library * 1e6, t.writing * 1e6, t.plain * 1e6,
-           t.least * 1e6, t.phat * 1e6, t.instead * 1e6, t.whole * 1e6, t.library / t.instead,
-           t.library / t.phat, t.library / t.whole, t.library / t.plain);
+    printf("%-16s %4u %5u %8.1f %7.1f %8.1f %6.1f %7.1f %7.1f %6.2f %8.2f %9.2f %10.2f", name,
+           shape->triangles, shape->edges, t.library * 1e6, t.writing * 1e6, t.plain * 1e6,
+           t.least * 1e6, t.phat * 1e6, t.whole * 1e6, t.library / t.plain, t.library / t.phat,
+           t.library / t.whole, t.least / t.phat);
     if (smaller != NULL)
         printf(" %7.2f", t.library / smaller->library);
     printf("\n");
@@ -166,20 +141,18 @@ static void print_row(const char *name, const struct shape *shape, struct times 
 static void print_heading(unsigned rounds)
 {
     printf("Fill jobs, d 2; times in microseconds, best of %u rounds.\n"
-           "library     the whole answer call, reading included\n"
-           "write       the whole write call: reading, and no search\n"
-           "plain C     the checker's reading and elimination\n"
-           "least       plain C that reads the job by hash and clears the work memory, no search\n"
-           "PHAT        its reduction alone, of the triangles' boundaries, as the library's;\n"
-           "            the better of standard and twist\n"
-           "least+PHAT  what one would use in the library's place: least and then PHAT,\n"
-           "            timed in one go; PHAT's matrix is there before the clock starts\n"
-           "whole       PHAT with all cells as columns, as its own boundary matrices have them\n"
-           "growth      the library's time over its time one row up\n\n",
+           "library  the whole answer call, reading included\n"
+           "write    the whole write call: reading, and no search\n"
+           "plain C  the checker's reading and elimination\n"
+           "least    plain C that reads the job by hash and clears the work memory, no search\n"
+           "PHAT     its reduction alone, of the triangles' boundaries, as the library's;\n"
+           "         the better of standard and twist\n"
+           "whole    the same with all cells as columns, as PHAT's boundary matrices have them\n"
+           "growth   the library's time over its time one row up\n\n",
            rounds);
-    printf("%-16s %4s %5s %8s %6s %8s %6s %7s %10s %7s %16s %8s %9s %6s %7s\n", "shape", "tri",
-           "edges", "library", "write", "plain C", "least", "PHAT", "least+PHAT", "whole",
-           "lib/(least+PHAT)", "lib/PHAT", "lib/whole", "lib/C", "growth");
+    printf("%-16s %4s %5s %8s %7s %8s %6s %7s %7s %6s %8s %9s %10s %7s\n", "shape", "tri", "edges",
+           "library", "write", "plain C", "least", "PHAT", "whole", "lib/C", "lib/PHAT", "lib/whole",
+           "least/PHAT", "growth");
 }
 
 enum { ROWS_MOST = 64 };
@@ -217,7 +190,7 @@ static void print_best(unsigned number, const char *name, const struct shape *sh
 static void print_answer_table(unsigned rounds)
 {
     for (unsigned i = 0; i < ROWS_MOST; i++)
-        best_of_row[i] = (struct times){1e9, 1e9, 1e9, 1e9, 1e9, 1e9, 1e9};
+        best_of_row[i] = (struct times){1e9, 1e9, 1e9, 1e9, 1e9, 1e9};
     print_heading(rounds);
     for (unsigned sweep = 0; sweep < SWEEPS; sweep++)
         each_row(measure_row, rounds_of_sweep(rounds, sweep));

@@ -1,6 +1,7 @@
 #include "bench_phat.h"
 
 #include <algorithm>
+#include <chrono>
 #include <vector>
 
 #include <phat/algorithms/standard_reduction.h>
@@ -27,10 +28,10 @@ phat::column column_of(const Facets &facets, phat::index first_row)
  * First the vertices, then the edges, the triangles and the rim.  A column stands for
  * a row too, so what has no boundary here still has its empty column.
  */
-Matrix matrix_of(const shape *shape, phat_columns columns)
+Matrix matrix_of(const shape *shape, phat_matrix which)
 {
     Matrix matrix;
-    const phat::index edges = columns == PHAT_WHOLE ? shape->vertices : 0;
+    const phat::index edges = which == PHAT_WHOLE ? shape->vertices : 0;
     const phat::index triangles = edges + shape->edges;
     const phat::index rim = triangles + shape->triangles;
     matrix.set_num_cols(rim + 1);
@@ -41,7 +42,7 @@ Matrix matrix_of(const shape *shape, phat_columns columns)
     for (phat::index i = 0; i < shape->edges; i++) {
         matrix.set_dim(edges + i, 1);
         matrix.set_col(edges + i,
-                       columns == PHAT_WHOLE ? column_of(shape->edge[i], 0) : phat::column());
+                       which == PHAT_WHOLE ? column_of(shape->edge[i], 0) : phat::column());
     }
     for (phat::index i = 0; i < shape->triangles; i++) {
         matrix.set_dim(triangles + i, 2);
@@ -56,31 +57,24 @@ Matrix matrix_of(const shape *shape, phat_columns columns)
     return matrix;
 }
 
+template <typename Reduction>
+double seconds_of(Matrix &matrix)
+{
+    Reduction reduction;
+    const auto begin = std::chrono::steady_clock::now();
+    reduction(matrix);
+    const auto end = std::chrono::steady_clock::now();
+    return std::chrono::duration<double>(end - begin).count();
+}
+
 }  // namespace
 
-struct phat_matrix {
-    Matrix matrix;
-};
-
-struct phat_matrix *phat_make(const struct shape *shape, enum phat_columns columns)
+double phat_reduce(const struct shape *shape, enum phat_matrix which, enum phat_way way,
+                   bool *bounds)
 {
-    return new phat_matrix{matrix_of(shape, columns)};
-}
-
-void phat_reduce(struct phat_matrix *matrix, enum phat_way way)
-{
-    if (way == PHAT_STANDARD)
-        phat::standard_reduction()(matrix->matrix);
-    else
-        phat::twist_reduction()(matrix->matrix);
-}
-
-bool phat_bounds(const struct phat_matrix *matrix)
-{
-    return matrix->matrix.is_empty(matrix->matrix.get_num_cols() - 1);
-}
-
-void phat_free(struct phat_matrix *matrix)
-{
-    delete matrix;
+    Matrix matrix = matrix_of(shape, which);
+    const double seconds = way == PHAT_STANDARD ? seconds_of<phat::standard_reduction>(matrix)
+                                                : seconds_of<phat::twist_reduction>(matrix);
+    *bounds = matrix.is_empty(matrix.get_num_cols() - 1);
+    return seconds;
 }

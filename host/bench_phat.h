@@ -1,4 +1,4 @@
-/* PHAT's reduction of a boundary matrix, behind plain C calls. */
+/* PHAT's reduction of a boundary matrix, behind a plain C call. */
 #ifndef BENCH_PHAT_H
 #define BENCH_PHAT_H
 
@@ -15,18 +15,15 @@ enum phat_way { PHAT_STANDARD, PHAT_TWIST };
  * edges.  PHAT_WHOLE has the edges' boundaries too, in rows of vertices: the matrix
  * of the whole complex, with all cells as columns.
  */
-enum phat_columns { PHAT_ASKED, PHAT_WHOLE };
+enum phat_matrix { PHAT_ASKED, PHAT_WHOLE };
 
-/* A boundary matrix of a shape, with the rim as its last column. */
-struct phat_matrix;
-
-struct phat_matrix *phat_make(const struct shape *shape, enum phat_columns columns);
-void phat_reduce(struct phat_matrix *matrix, enum phat_way way);
-
-/* Once reduced: whether nothing is left of the rim, so it has a filling.  PHAT keeps none. */
-bool phat_bounds(const struct phat_matrix *matrix);
-
-void phat_free(struct phat_matrix *matrix);
+/*
+ * Reduces a boundary matrix of the shape with the rim as its last column, and hands
+ * back the seconds of the reduction alone.  `bounds` says whether the rim was reduced
+ * to nothing, so whether it has a filling; PHAT keeps no filling.
+ */
+double phat_reduce(const struct shape *shape, enum phat_matrix which, enum phat_way way,
+                   bool *bounds);
 
 #ifdef __cplusplus
 }

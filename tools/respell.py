@@ -5,8 +5,8 @@ usage: python3 tools/respell.py        at the top of the repository
 
 Definitions, fields, constructors and variables go from camelCase, or words with dashes, to snake_case. In a lemma's name a dash joins the
 names that it speaks of, and stays. Where a definition's new name was a lemma's, the lemma gets `_lem`. Functions of src/ and exported names
-stay as they are. Files of specs/, proofs/, src/ and must-fail/ are rewritten in place, and a name that would fall together with another in one
-file stops the run before anything is written.
+stay as they are. Files of specs/, proofs/, src/ and must-fail/ are rewritten in place. With --clashes nothing is written: it lists where a new name
+stands in a file already, to be looked at by hand.
 """
 import glob
 import re

@@ -5,13 +5,10 @@ use Rattle.std.specs.Prelude.{ℕ, zero, suc, ◌<◌, ◌≡◌, refl, Bool, tr
 use Rattle.std.proofs.Common.{sym, ◌∙◌, ap, subst, inl, inr, arith}
 use Rattle.chains.specs.Chain.{Chain, differ, ◌⊕◌, empty, unit, Under, Top, Smaller, Smallest, boundary, Fills, InClass, SmallestFilling, SmallestInClass}
 use Rattle.chains.specs.Sum.{differ-false, sum-assoc, sum_comm, sum_self, sum_twice, under-empty, under-sum, under_more}
+use Rattle.chains.specs.Search.{Found}
 use Rattle.chains.specs.Boundary.{unit-here, unit-else, under-unit, boundary-empty, boundary-under}
 use Rattle.chains.proofs.Order.{top-under, under-zero, under-less, same_or_not, smaller-at}
 use Rattle.chains.proofs.Smallest.{smallest-same}
-
--- The outcome of a search: the smallest chain with the property, or that no chain has it.
-abbrev pub Found : (Chain → Type 0) → Type 0
-Found Has = ((s : Chain) × Smallest Has s) ⊎ ((c : Chain) → Has c → ⊥)
 
 -- A chain moves to the other side of a comparison that is decided at a rank that it does not hold.
 pub smaller-moved : (P Q k : Chain) (s : Smaller P (Q ⊕ k)) → k s.rank ≡ false → Smaller (P ⊕ k) Q

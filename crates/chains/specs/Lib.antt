@@ -10,3 +10,5 @@ pub mod Boundary
 pub mod Smallest
 -- the groups of cycles and of boundaries
 pub mod Homology
+-- the outcome of a search for a smallest chain
+pub mod Search

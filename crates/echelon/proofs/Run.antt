@@ -4,19 +4,16 @@ use Rattle.std.specs.Prelude.{ℕ, zero, suc, ◌≤◌, ◌<◌, ◌≡◌, ref
 use Rattle.std.proofs.Common.{ap, inl, inr, arith}
 use Rattle.chains.specs.Chain.{Chain, ◌⊕◌, empty, unit, Under, Fills, SmallestInClass}
 use Rattle.chains.specs.Boundary.{unit-here, unit-else}
-use Rattle.chains.proofs.Search.{Found}
+use Rattle.chains.specs.Search.{Found}
 use Rattle.echelon.specs.Reduce.{reduce}
 use Rattle.echelon.specs.Echelon.{Echelon}
 use Rattle.echelon.proofs.Echelon.{echelon-start}
 use Rattle.echelon.specs.Reducing.{Inserting, Filling}
 use Rattle.echelon.proofs.Reducing.{reducing-start, reducing-skip, reducing-add}
 use Rattle.echelon.specs.Insert.{Put}
+use Rattle.echelon.specs.Run.{put, Slots}
 use Rattle.echelon.proofs.Insert.{insert-dropped, insert-kept}
 use Rattle.echelon.proofs.Answer.{fill-found, fill_none, class-found}
-
--- the slots R with c put into slot r
-abbrev pub put : (ℕ → Chain) → ℕ → Chain → ℕ → Chain
-put R r c = λ j. cond (unit r j) c (R j)
 
 pub put_is : (m : ℕ) (R : ℕ → Chain) (r : ℕ) (c : Chain) → Put m R r c (put R r c)
 put_is m R r c =
@@ -24,10 +21,6 @@ put_is m R r c =
       here = ap (λ b. cond b c (R r)) (unit-here r);
       others = λ j h ne. ap (λ b. cond b c (R j)) (unit-else r j (omega arith));
     }
-
--- some slots after the first k columns
-abbrev pub Slots : (ℕ → Chain) → ℕ → ℕ → ℕ → Type 0
-Slots D n m k = (R : ℕ → Chain) × (W : ℕ → Chain) × Echelon D n m k R W
 
 -- The three cases at a row: the chain does not hold it, or its slot is occupied, or its slot is vacant.
 at_row : {X : Type 0} (held full : Bool) → (held ≡ false → X) → (held ≡ true → full ≡ true → X)

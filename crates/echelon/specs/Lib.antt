@@ -11,3 +11,5 @@ pub mod Reducing
 pub mod Insert
 -- the smallest chain of a class
 pub mod Answer
+-- slots as functions on chains
+pub mod Run

@@ -1,5 +1,5 @@
--- Theorems about the definitions of specs/ that fall where a must-fail edit changes one of them. They stand here, so that the
--- edited definition still reads and is refused by what no longer holds of it.
+-- Theorems, by files: of each file some fall where a must-fail edit changes a definition of specs/. They stand here, so that the edited
+-- definition still reads and is refused by what no longer holds of it.
 -- laws of the edits
 pub mod EditLaws
 -- the worked jobs, computed

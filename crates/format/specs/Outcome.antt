@@ -6,7 +6,8 @@ use Rattle.chains.specs.Chain.{Chain, empty, Under, boundary, SmallestInClass}
 use Rattle.chains.specs.Sum.{under-empty}
 use Rattle.chains.specs.Boundary.{boundary-under}
 use Rattle.chains.proofs.Order.{top_of, same_or_not}
-use Rattle.chains.proofs.Search.{Found, search_all, found_same, filling_found, fills_or_not, smallest_in_class_exists}
+use Rattle.chains.specs.Search.{Found}
+use Rattle.chains.proofs.Search.{search_all, found_same, filling_found, fills_or_not, smallest_in_class_exists}
 use Rattle.format.specs.Numbers.{rim_open, no_filling}
 use Rattle.format.specs.Simplex.{lower, columns, rank_from, at_rank, sum_over}
 use Rattle.format.specs.Reading.{Job, Question, fill, class, Reading, accepted, refused}

@@ -110,12 +110,12 @@ module _ {keys : List ℕ} {n number width skip k : ℕ} (a : Siding keys n numb
           subst (λ (w : ℕ). Proper w faces) e proper
 
       pub siding-lacks : place ≡ 0 → FacetsTold faces s Lacking
-      siding-lacks None-found = record {
+      siding-lacks none_found = record {
         listed = λ e. let z : ◌≡◌ {A = ℕ} 0 1 = cc in absurd (omega arith);
         lacking = λ e.
             ap (λ (l : List Simplex). all_listed l faces) (facets-below s)
             ∙ lacking-one s faces (length s) skip (omega arith)
-            (number-missing short keyed (facet-own s own (omega arith) (omega arith)) (sym looked ∙ None-found));
+            (number-missing short keyed (facet-own s own (omega arith) (omega arith)) (sym looked ∙ none_found));
       }
 
       facet-ranked : (place ≡ 0 → ⊥) → rank (without skip s) faces ≡ ranked (place - 1)

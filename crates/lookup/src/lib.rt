@@ -117,7 +117,9 @@ pub fn index(list: SimplexList, keys: &mut [u64], first: &mut [u16], next: &mut 
     n
 }
 
-// The list that the first n numbers stand for, simplices of `width` vertices.
+// The list that the first n numbers stand for, simplices of `width` vertices. Not inlined, or each caller's frame has room for the
+// lists that it makes one after the other.
+#[inline(never)]
 pub fn list_of(keys: &[u64], n: usize, width: usize) -> SimplexList
     requires le_width { (1 ≤ width) × (width ≤ 4) }
     requires n_bound { (n ≤ 512) × (n ≤ length keys.now) }

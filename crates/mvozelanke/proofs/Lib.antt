@@ -1,2 +1,2 @@
--- Laws that the exported calls' proofs share.
+-- Laws that the calls' proofs share.
 pub mod Laws

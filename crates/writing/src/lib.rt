@@ -39,6 +39,8 @@ fn normal_length(job: Job, n: usize) -> usize
 }
 
 // The normal form of a job that was read, where there is room for it, and its length; else refusal 14, place 0.
+// Not inlined, or the reading would stand on the writing's frame.
+#[inline(never)]
 fn write_read(out: &mut [u8], job: Job) -> u64
     requires { Readable job }
     ensures { (k : Readable job) → WrittenJob (job_of job k.set) out.old result out.new }
