@@ -28,29 +28,31 @@ small-dim start = subst (λ n. n ≤ 2) (sym start.requires.dim_value) (dimensio
 
 -- what is known once the sides are chosen
 module _ (c : After-numbers_of-sides) where
-  m-is : c.of-m.result ≡ length (simplices (lists c.before.before.before.before.before.before.before.before.before.before.before.before.before.before) c.args.dim)
-  m-is = c.of-m.ensures (lists c.before.before.before.before.before.before.before.before.before.before.before.before.before.before) (held-counted c.requires.asking.held)
+  abbrev held : Complex
+  held = complex_in c.args.read.head.v c.args.read.counts c.args.e_keys.now c.args.t_keys.now c.args.s_keys.now
 
-  n-is : c.of-n.result ≡ length (simplices (lists c.before.before.before.before.before.before.before.before.before.before.before.before.before.before) (c.args.dim + 1))
-  n-is = c.of-n.ensures (lists c.before.before.before.before.before.before.before.before.before.before.before.before.before.before) (held-counted c.requires.asking.held)
+  m-is : c.of-m.result ≡ length (simplices held c.args.dim)
+  m-is = c.of-m.ensures held (held-counted c.requires.asking.held)
+
+  n-is : c.of-n.result ≡ length (simplices held (c.args.dim + 1))
+  n-is = c.of-n.ensures held (held-counted c.requires.asking.held)
 
   few : c.of-m.result ≤ 512
-  few = subst (λ n. n ≤ 512) (sym m-is) (few-simplices (lists c.before.before.before.before.before.before.before.before.before.before.before.before.before.before) c.requires.asking.held.sound _)
+  few = subst (λ n. n ≤ 512) (sym m-is) (few-simplices held c.requires.asking.held.sound _)
 
 -- the vertices are listed by number
 vertices-listed : (c : After-number_vertices) →
-    simplices_in 1 c.number_vertices.new.keys c.of-m.result ≡ simplices (lists c.before.before.before.before.before.before.before.before.before.before.before.before.before.before.before.before.before.before.before.before.before.before.before) c.args.dim
+    simplices_in 1 c.number_vertices.new.keys c.of-m.result ≡ simplices (complex_in c.args.read.head.v c.args.read.counts c.args.e_keys.now c.args.t_keys.now c.args.s_keys.now) c.args.dim
 vertices-listed c =
-    c.number_vertices.ensures ∙ vertices-are (lists c.before.before.before.before.before.before.before.before.before.before.before.before.before.before.before.before.before.before.before.before.before.before.before) _ _ c.if-dim-eq0.true (c.of-m.ensures (lists c.before.before.before.before.before.before.before.before.before.before.before.before.before.before.before.before.before.before.before.before.before.before.before) (held-counted c.requires.asking.held))
+    c.number_vertices.ensures ∙ vertices-are (complex_in c.args.read.head.v c.args.read.counts c.args.e_keys.now c.args.t_keys.now c.args.s_keys.now) _ _ c.if-dim-eq0.true (c.of-m.ensures (complex_in c.args.read.head.v c.args.read.counts c.args.e_keys.now c.args.t_keys.now c.args.s_keys.now) (held-counted c.requires.asking.held))
 
 -- simplices of other dimensions by their numbers
-rows-listed : (c : After-numbers_of-rows) →
+rows-listed : (c : After-numbers_of-rows) → c.args.dim ≤ 2 →
     simplices_in (c.args.dim + 1) c.numbers_of-rows.result.now c.of-m.result
-    ≡ simplices (lists c.before.before.before.before.before.before.before.before.before.before.before.before.before.before.before.before.before.before.before.before.before.before) c.args.dim
-rows-listed c =
-    let d = small-dim c.before.before.before.before.before.before.before.before.before.before.before.before.before.before.before.before.before.before.before.before.before.before in
+    ≡ simplices (complex_in c.args.read.head.v c.args.read.counts c.args.e_keys.now c.args.t_keys.now c.args.s_keys.now) c.args.dim
+rows-listed c low =
     let some = c.if-dim-eq0.false in
-    numbers-list c.requires.asking.held c.args.dim _ _ c.numbers_of-rows.ensures (omega arith) (omega arith) (omega arith) (c.of-m.ensures (lists c.before.before.before.before.before.before.before.before.before.before.before.before.before.before.before.before.before.before.before.before.before.before) (held-counted c.requires.asking.held))
+    numbers-list c.requires.asking.held c.args.dim _ _ c.numbers_of-rows.ensures (omega arith) (omega arith) (omega arith) (c.of-m.ensures (complex_in c.args.read.head.v c.args.read.counts c.args.e_keys.now c.args.t_keys.now c.args.s_keys.now) (held-counted c.requires.asking.held))
 
 pub overflow_add-dim : goal.overflow_add-dim
 overflow_add-dim c = omega (arith, small-dim (goal.at.overflow_add-dim c).Start)
@@ -86,12 +88,12 @@ overflow_add-dim-4 c = omega (arith, small-dim (goal.at.overflow_add-dim-4 c).St
 
 pub put_chain-requires-2 : goal.put_chain-requires-2
 put_chain-requires-2 c =
-    record { le_size = (omega arith, omega (arith, small-dim (goal.at.put_chain-requires-2 c).Start)); n_in_bounds = numbers_fit c.requires.asking.held _ _ c.numbers_of-rows.ensures (omega (arith, c.if-dim-eq0.false)) (omega (arith, small-dim (goal.at.put_chain-requires-2 c).Start)) (m-is (goal.at.put_chain-requires-2 c).After-numbers_of-sides); n_in_bounds_2 = le_trans (members-room (lists (goal.at.put_chain-requires-2 c).Start) c.requires.asking.held.sound c.args.dim _ (rows-listed (goal.at.put_chain-requires-2 c).After-numbers_of-rows) _) c.requires.in_bounds; n_bound = simp (length-take, length-drop) (omega (arith, few (goal.at.put_chain-requires-2 c).After-numbers_of-sides, c.class.auto.cur)) }
+    record { le_size = (omega arith, omega (arith, small-dim (goal.at.put_chain-requires-2 c).Start)); n_in_bounds = numbers_fit c.requires.asking.held _ _ c.numbers_of-rows.ensures (omega (arith, c.if-dim-eq0.false)) (omega (arith, small-dim (goal.at.put_chain-requires-2 c).Start)) (m-is (goal.at.put_chain-requires-2 c).After-numbers_of-sides); n_in_bounds_2 = le_trans (members-room (lists (goal.at.put_chain-requires-2 c).Start) c.requires.asking.held.sound c.args.dim _ (rows-listed (goal.at.put_chain-requires-2 c).After-numbers_of-rows (small-dim (goal.at.put_chain-requires-2 c).Start)) _) c.requires.in_bounds; n_bound = simp (length-take, length-drop) (omega (arith, few (goal.at.put_chain-requires-2 c).After-numbers_of-sides, c.class.auto.cur)) }
 
 pub returns : goal.returns
 unfolding half_r matrix-in
 returns c = λ k.
-    answers-class k c.requires.dim_value _ c.requires.question_value (rows-listed (goal.at.returns c).After-numbers_of-rows)
+    answers-class k c.requires.dim_value _ c.requires.question_value (rows-listed (goal.at.returns c).After-numbers_of-rows (small-dim (goal.at.returns c).Start))
     (c.class.ensures
     (matrix-in c.requires.asking.held c.args.dim _ _ c.numbers_of-sides.ensures (small-dim (goal.at.returns c).Start) (m-is (goal.at.returns c).After-numbers_of-sides) (n-is (goal.at.returns c).After-numbers_of-sides)))
     c.put_chain-2.ensures

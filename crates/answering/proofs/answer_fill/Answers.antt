@@ -30,26 +30,28 @@ small-dim start = subst (λ n. n ≤ 2) (sym start.requires.dim_value) (dimensio
 
 -- what is known once the sides are chosen
 module _ (c : After-numbers_of-sides) where
-  m-is : c.of-m.result ≡ length (simplices (lists c.before.before.before.before.before.before.before.before.before.before.before.before.before.before) c.args.dim)
-  m-is = c.of-m.ensures (lists c.before.before.before.before.before.before.before.before.before.before.before.before.before.before) (held-counted c.requires.asking.held)
+  abbrev held : Complex
+  held = complex_in c.args.read.head.v c.args.read.counts c.args.e_keys.now c.args.t_keys.now c.args.s_keys.now
 
-  n-is : c.of-n.result ≡ length (simplices (lists c.before.before.before.before.before.before.before.before.before.before.before.before.before.before) (c.args.dim + 1))
-  n-is = c.of-n.ensures (lists c.before.before.before.before.before.before.before.before.before.before.before.before.before.before) (held-counted c.requires.asking.held)
+  m-is : c.of-m.result ≡ length (simplices held c.args.dim)
+  m-is = c.of-m.ensures held (held-counted c.requires.asking.held)
+
+  n-is : c.of-n.result ≡ length (simplices held (c.args.dim + 1))
+  n-is = c.of-n.ensures held (held-counted c.requires.asking.held)
 
   few : c.of-m.result ≤ 512
-  few = subst (λ n. n ≤ 512) (sym m-is) (few-simplices (lists c.before.before.before.before.before.before.before.before.before.before.before.before.before.before) c.requires.asking.held.sound _)
+  few = subst (λ n. n ≤ 512) (sym m-is) (few-simplices held c.requires.asking.held.sound _)
 
   few_columns : c.of-n.result ≤ 512
-  few_columns = subst (λ n. n ≤ 512) (sym n-is) (few-simplices (lists c.before.before.before.before.before.before.before.before.before.before.before.before.before.before) c.requires.asking.held.sound _)
+  few_columns = subst (λ n. n ≤ 512) (sym n-is) (few-simplices held c.requires.asking.held.sound _)
 
 -- the patch is made of the columns
-module _ (c : After-numbers_of-cols) where
+module _ (c : After-numbers_of-cols) (low : c.args.dim ≤ 2) where
   patch-list : simplices_in (c.args.dim + 2) c.numbers_of-cols.result.now c.of-n.result
-      ≡ simplices (lists c.before.before.before.before.before.before.before.before.before.before.before.before.before.before.before.before.before.before.before.before.before.before) (c.args.dim + 1)
+      ≡ simplices (complex_in c.args.read.head.v c.args.read.counts c.args.e_keys.now c.args.t_keys.now c.args.s_keys.now) (c.args.dim + 1)
   patch-list =
-      let d = small-dim c.before.before.before.before.before.before.before.before.before.before.before.before.before.before.before.before.before.before.before.before.before.before in
       numbers-list c.requires.asking.held (c.args.dim + 1) _ _ c.numbers_of-cols.ensures (omega arith) (omega arith) (omega arith)
-      (c.of-n.ensures (lists c.before.before.before.before.before.before.before.before.before.before.before.before.before.before.before.before.before.before.before.before.before.before) (held-counted c.requires.asking.held))
+      (c.of-n.ensures (complex_in c.args.read.head.v c.args.read.counts c.args.e_keys.now c.args.t_keys.now c.args.s_keys.now) (held-counted c.requires.asking.held))
 
 pub overflow_add-dim : goal.overflow_add-dim
 overflow_add-dim c = omega (arith, small-dim (goal.at.overflow_add-dim c).Start)
@@ -72,7 +74,7 @@ overflow_add-dim-in-Found-2 c = omega (arith, small-dim (goal.at.overflow_add-di
 
 pub put_chain-requires : goal.put_chain-requires
 put_chain-requires c =
-    record { le_size = (omega arith, omega (arith, small-dim (goal.at.put_chain-requires c).Start)); n_in_bounds = numbers_fit c.requires.asking.held _ _ c.numbers_of-cols.ensures (omega arith) (omega (arith, small-dim (goal.at.put_chain-requires c).Start)) (n-is (goal.at.put_chain-requires c).After-numbers_of-sides); n_in_bounds_2 = le_trans (members-room (lists (goal.at.put_chain-requires c).Start) c.requires.asking.held.sound (c.args.dim + 1) _ (patch-list (goal.at.put_chain-requires c).After-numbers_of-cols) _) c.requires.in_bounds; n_bound = simp (length-take, length-drop) (omega (arith, few_columns (goal.at.put_chain-requires c).After-numbers_of-sides, c.fill-filled.auto.cur)) }
+    record { le_size = (omega arith, omega (arith, small-dim (goal.at.put_chain-requires c).Start)); n_in_bounds = numbers_fit c.requires.asking.held _ _ c.numbers_of-cols.ensures (omega arith) (omega (arith, small-dim (goal.at.put_chain-requires c).Start)) (n-is (goal.at.put_chain-requires c).After-numbers_of-sides); n_in_bounds_2 = le_trans (members-room (lists (goal.at.put_chain-requires c).Start) c.requires.asking.held.sound (c.args.dim + 1) _ (patch-list (goal.at.put_chain-requires c).After-numbers_of-cols (small-dim (goal.at.put_chain-requires c).Start)) _) c.requires.in_bounds; n_bound = simp (length-take, length-drop) (omega (arith, few_columns (goal.at.put_chain-requires c).After-numbers_of-sides, c.fill-filled.auto.cur)) }
 
 pub rim_closed-closed-requires : goal.rim_closed-closed-requires
 rim_closed-closed-requires c = record { asking = c.requires.asking; dim_bound = small-dim (goal.at.rim_closed-closed-requires c).Start }
@@ -91,7 +93,7 @@ pub returns-in-Found : goal.returns-in-Found
 unfolding half_v matrix-in
 returns-in-Found c = λ k.
     answers-patch k c.requires.dim_value c.requires.question_value _
-    (patch-list (goal.at.returns-in-Found c).After-numbers_of-cols)
+    (patch-list (goal.at.returns-in-Found c).After-numbers_of-cols (small-dim (goal.at.returns-in-Found c).Start))
     (fill-says (c.fill-filled.ensures
     (matrix-in c.requires.asking.held c.args.dim _ _ c.numbers_of-sides.ensures (small-dim (goal.at.returns-in-Found c).Start) (m-is (goal.at.returns-in-Found c).After-numbers_of-sides) (n-is (goal.at.returns-in-Found c).After-numbers_of-sides)))
     c.in-Found.is)

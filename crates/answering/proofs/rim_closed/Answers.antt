@@ -18,20 +18,23 @@ lists start =
 
 -- what is known once the sides are chosen
 module _ (c : After-numbers_of-sides) where
+  abbrev held : Complex
+  held = complex_in c.args.read.head.v c.args.read.counts c.args.e_keys.now c.args.t_keys.now c.args.s_keys.now
+
   below : c.args.dim - 1 ≤ 2
   below = omega (arith, c.requires.dim_bound)
 
   some : 0 < c.args.dim
   some = omega (arith, c.if-dim-eq0.false)
 
-  m-is : c.of-m.result ≡ length (simplices (lists c.before.before.before.before.before.before.before.before.before.before.before.before.before) (c.args.dim - 1))
-  m-is = c.of-m.ensures (lists c.before.before.before.before.before.before.before.before.before.before.before.before.before) (held-counted c.requires.asking.held)
+  m-is : c.of-m.result ≡ length (simplices held (c.args.dim - 1))
+  m-is = c.of-m.ensures held (held-counted c.requires.asking.held)
 
-  n-is : c.of-n.result ≡ length (simplices (lists c.before.before.before.before.before.before.before.before.before.before.before.before.before) (c.args.dim - 1 + 1))
-  n-is = c.of-n.ensures (lists c.before.before.before.before.before.before.before.before.before.before.before.before.before) (held-counted c.requires.asking.held)
+  n-is : c.of-n.result ≡ length (simplices held (c.args.dim - 1 + 1))
+  n-is = c.of-n.ensures held (held-counted c.requires.asking.held)
 
   few : c.of-n.result ≤ 512
-  few = subst (λ n. n ≤ 512) (sym n-is) (few-simplices (lists c.before.before.before.before.before.before.before.before.before.before.before.before.before) c.requires.asking.held.sound _)
+  few = subst (λ n. n ≤ 512) (sym n-is) (few-simplices held c.requires.asking.held.sound _)
 
 pub returns-then-dim-eq0 : goal.returns-then-dim-eq0
 returns-then-dim-eq0 c = rim-none (lists (goal.at.returns-then-dim-eq0 c).Start) _ _ c.if-dim-eq0.true

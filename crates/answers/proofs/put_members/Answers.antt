@@ -20,7 +20,7 @@ module _ (p : At-loop-i) where
 
 -- the simplex at hand
 stands : (c : After-simplex_of-s)
-    → get_or (list (record { before = c.before.before.before.before; type_inv = record { col = c.type_inv.col; keys = c.type_inv.keys } })) c.loop-i.i [] ≡ vertices_of c.simplex_of-s.result
+    → get_or (simplices_in c.args.size c.args.keys.now c.args.n) c.loop-i.i [] ≡ vertices_of c.simplex_of-s.result
 stands c =
     simplex-in _ _ _ c.requires.n_in_bounds _ c.loop-i-test.true ∙ sym c.simplex_of-s.ensures
 

@@ -9,28 +9,26 @@ use lib.ListN.{length}
 use Rattle.format.specs.Simplex.{Simplex}
 use Rattle.lookup.specs.Sides.{Sides}
 use Rattle.solver.proofs.Adding.{Adding, adding-start, rank_below, adding-on, adding-end}
-use Rattle.solver.proofs.add_boundary.Goals.{After-flip, After-flip-2, After-flip-3, Start}
+use Rattle.solver.proofs.add_boundary.Goals.{After-flip, After-flip-2, After-flip-3}
 use Rattle.solver.proofs.add_boundary.Goals as goal
 
 -- what is in hand when so many facets are left, with these sides
-abbrev Added : Start → List ℕ → ℕ → ℕ → Type 0
-Added start cur left rest =
-    (rows : List Simplex) (s : Simplex) → length s ≡ start.args.size → 0 < start.args.size
-    → Sides rows s start.args.size start.args.sides → Adding rows s start.args.cur.now cur left rest
+abbrev Added : (size sides : ℕ) (first cur : List ℕ) (left rest : ℕ) → Type 0
+Added size sides first cur left rest =
+    (rows : List Simplex) (s : Simplex) → length s ≡ size → 0 < size → Sides rows s size sides → Adding rows s first cur left rest
 
-module _ (p : After-flip) where
-  one : Added p.before.before.before p.flip.new.col (p.args.size - 1) (p.args.sides / 65536)
-  one rows s sized some sided = adding-on (adding-start rows s _ _ _ sized sided) some p.flip.ensures
+one : (p : After-flip) → Added p.args.size p.args.sides p.args.cur.now p.flip.new.col (p.args.size - 1) (p.args.sides / 65536)
+one p rows s sized some sided = adding-on (adding-start rows s _ _ _ sized sided) some p.flip.ensures
 
-module _ (p : After-flip-2) where
-  two : Added p.before.before.before.before.before.before.before.before p.flip-2.new.col (p.args.size - 1 - 1) (p.args.sides / 65536 / 65536)
-  two rows s sized some sided =
-      adding-on (one p.before.before.before.before.before rows s sized some sided) (omega (arith, p.if-size-le1.false)) p.flip-2.ensures
+two : (p : After-flip-2)
+    → Added p.args.size p.args.sides p.args.cur.now p.flip.new.col (p.args.size - 1) (p.args.sides / 65536)
+    → Added p.args.size p.args.sides p.args.cur.now p.flip-2.new.col (p.args.size - 1 - 1) (p.args.sides / 65536 / 65536)
+two p before rows s sized some sided = adding-on (before rows s sized some sided) (omega (arith, p.if-size-le1.false)) p.flip-2.ensures
 
-module _ (p : After-flip-3) where
-  three : Added p.before.before.before.before.before.before.before.before.before.before.before.before.before p.flip-3.new.col (p.args.size - 1 - 1 - 1) (p.args.sides / 65536 / 65536 / 65536)
-  three rows s sized some sided =
-      adding-on (two p.before.before.before.before.before rows s sized some sided) (omega (arith, p.if-size-le2.false)) p.flip-3.ensures
+three : (p : After-flip-3)
+    → Added p.args.size p.args.sides p.args.cur.now p.flip-2.new.col (p.args.size - 1 - 1) (p.args.sides / 65536 / 65536)
+    → Added p.args.size p.args.sides p.args.cur.now p.flip-3.new.col (p.args.size - 1 - 1 - 1) (p.args.sides / 65536 / 65536 / 65536)
+three p before rows s sized some sided = adding-on (before rows s sized some sided) (omega (arith, p.if-size-le2.false)) p.flip-3.ensures
 
 pub flip-requires : goal.flip-requires
 flip-requires c =
@@ -48,24 +46,24 @@ flip-requires-2 c =
 
 pub returns-then-size-le2 : goal.returns-then-size-le2
 returns-then-size-le2 c = λ rows s sized some most sided.
-    adding-end (two (goal.at.returns-then-size-le2 c).After-flip-2 rows s sized some sided) (omega (arith, c.if-size-le2.true))
+    adding-end (two (goal.at.returns-then-size-le2 c).After-flip-2 (one (goal.at.returns-then-size-le2 c).After-flip) rows s sized some sided) (omega (arith, c.if-size-le2.true))
 
 pub flip-requires-3 : goal.flip-requires-3
 flip-requires-3 c =
-    let a = two (goal.at.flip-requires-3 c).After-flip-2 c.requires.rows c.requires.simplex c.requires.sized c.requires.some c.requires.sided in
+    let a = two (goal.at.flip-requires-3 c).After-flip-2 (one (goal.at.flip-requires-3 c).After-flip) c.requires.rows c.requires.simplex c.requires.sized c.requires.some c.requires.sided in
     omega (arith, rank_below a (omega (arith, c.if-size-le2.false)), c.requires.few, a.long)
 
 pub returns-then-size-le3 : goal.returns-then-size-le3
 returns-then-size-le3 c = λ rows s sized some most sided.
-    adding-end (three (goal.at.returns-then-size-le3 c).After-flip-3 rows s sized some sided) (omega (arith, c.if-size-le3.true))
+    adding-end (three (goal.at.returns-then-size-le3 c).After-flip-3 (two (goal.at.returns-then-size-le3 c).After-flip-2 (one (goal.at.returns-then-size-le3 c).After-flip)) rows s sized some sided) (omega (arith, c.if-size-le3.true))
 
 pub flip-requires-4 : goal.flip-requires-4
 flip-requires-4 c =
-    let a = three (goal.at.flip-requires-4 c).After-flip-3 c.requires.rows c.requires.simplex c.requires.sized c.requires.some c.requires.sided in
+    let a = three (goal.at.flip-requires-4 c).After-flip-3 (two (goal.at.flip-requires-4 c).After-flip-2 (one (goal.at.flip-requires-4 c).After-flip)) c.requires.rows c.requires.simplex c.requires.sized c.requires.some c.requires.sided in
     omega (arith, rank_below a (omega (arith, c.if-size-le3.false)), c.requires.few, a.long)
 
 pub returns : goal.returns
 returns c = λ rows s sized some most sided.
     adding-end
-    (adding-on (three (goal.at.returns c).After-flip-3 rows s sized some sided) (omega (arith, c.if-size-le3.false)) c.flip-4.ensures)
+    (adding-on (three (goal.at.returns c).After-flip-3 (two (goal.at.returns c).After-flip-2 (one (goal.at.returns c).After-flip)) rows s sized some sided) (omega (arith, c.if-size-le3.false)) c.flip-4.ensures)
     (omega (arith, most))

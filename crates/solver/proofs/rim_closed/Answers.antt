@@ -50,7 +50,7 @@ next_down-found-requires c =
     omega (arith, whole (goal.at.next_down-found-requires c).At-loop-i, c.requires.cur_len, c.requires.matrix_in.row_count, c.requires.matrix_in.few_rows)
 
 -- no row is left
-rows_end : (c : After-loop-i) (k : Matrix (record { before = c.before.before; type_inv = record { sides = c.type_inv.sides } })) → length k.high ≤ c.loop-i.i
+rows_end : (c : After-loop-i) (k : MatrixIn c.args.h c.args.size c.args.m c.args.sides.now c.args.n) → length k.high ≤ c.loop-i.i
 rows_end c k = omega (arith, c.loop-i-test.false, k.count)
 
 pub shape_of-cur-in-At : goal.shape_of-cur-in-At

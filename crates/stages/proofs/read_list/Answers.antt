@@ -37,23 +37,23 @@ pub overflow_add-start : goal.overflow_add-start
 overflow_add-start c = omega (arith, inside c)
 
 -- the payload has the shape of a list
-module _ (c : After-payload-p) where
-  long : length c.payload-p.result.now ≡ size (record { before = c.before.before; type_inv = record { next = c.type_inv.next; first = c.type_inv.first; keys = c.type_inv.keys; job = c.type_inv.job } })
+module _ (c : After-payload-p) (sized : SizedList c.args.job.now c.args.at c.args.kind c.in-Size.size) (inside : c.args.at + 6 + c.in-Size.size ≤ length c.args.job.now) where
+  long : length c.payload-p.result.now ≡ c.in-Size.size
   long =
       let a = c.args in
-      ap length c.payload-p.ensures ∙ payload-long a.job.now a.at (size (record { before = c.before.before; type_inv = record { next = c.type_inv.next; first = c.type_inv.first; keys = c.type_inv.keys; job = c.type_inv.job } })) (inside (record { before = c.before.before; type_inv = record { next = c.type_inv.next; first = c.type_inv.first; keys = c.type_inv.keys; job = c.type_inv.job } }))
+      ap length c.payload-p.ensures ∙ payload-long a.job.now a.at c.in-Size.size inside
 
   shaped : Shaped c.payload-p.result.now (c.args.at + 6) c.args.kind
   shaped = record {
     least = omega (arith, c.requires.le_kind);
     most = omega (arith, c.requires.le_kind);
-    fits = omega (arith, long, (sized (record { before = c.before.before; type_inv = record { next = c.type_inv.next; first = c.type_inv.first; keys = c.type_inv.keys; job = c.type_inv.job } })).fits);
-    places = omega (arith, long, fits (record { before = c.before.before; type_inv = record { next = c.type_inv.next; first = c.type_inv.first; keys = c.type_inv.keys; job = c.type_inv.job } }));
+    fits = omega (arith, long, sized.fits);
+    places = omega (arith, long, inside, c.well_formed.0.0);
   }
 
 pub take_items-taken-requires : goal.take_items-taken-requires
 take_items-taken-requires c =
-    record { shaped = shaped (goal.at.take_items-taken-requires c).After-payload-p; p_len_bound = omega (arith, long (goal.at.take_items-taken-requires c).After-payload-p, roomy (goal.at.take_items-taken-requires c).In-Size); blank = c.requires.blank }
+    record { shaped = shaped (goal.at.take_items-taken-requires c).After-payload-p (sized (goal.at.take_items-taken-requires c).In-Size) (inside (goal.at.take_items-taken-requires c).In-Size); p_len_bound = omega (arith, long (goal.at.take_items-taken-requires c).After-payload-p (sized (goal.at.take_items-taken-requires c).In-Size) (inside (goal.at.take_items-taken-requires c).In-Size), roomy (goal.at.take_items-taken-requires c).In-Size); blank = c.requires.blank }
 
 pub overflow_add-result : goal.overflow_add-result
 overflow_add-result c = omega (arith, fits (goal.at.overflow_add-result c).In-Size)
@@ -68,5 +68,5 @@ pub returns-in-Size : goal.returns-in-Size
 returns-in-Size c =
     let a = c.args in
     let list = sized (goal.at.returns-in-Size c).In-Size in
-    list-taken a.job.now a.at a.kind a.v (size (goal.at.returns-in-Size c).In-Size) list.stands c.payload-p.ensures (shaped (goal.at.returns-in-Size c).After-payload-p) c.take_items-taken.ensures
+    list-taken a.job.now a.at a.kind a.v (size (goal.at.returns-in-Size c).In-Size) list.stands c.payload-p.ensures (shaped (goal.at.returns-in-Size c).After-payload-p (sized (goal.at.returns-in-Size c).In-Size) (inside (goal.at.returns-in-Size c).In-Size)) c.take_items-taken.ensures
     list.even list.fits
