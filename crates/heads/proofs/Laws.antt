@@ -8,8 +8,10 @@ use native.Mathlib.Omega.{arith}
 use lib.Dec.{eqb, leb}
 use lib.ListN.{get_or}
 use borrow.Author.Tests.{eqb-true, eq-eqb, ne_eqb, le-leb, lt-leb}
+use Rattle.std.specs.Prelude.{Result}
+use Rattle.std.proofs.Common.{Ok, Err}
 use Rattle.heads.specs.declared.Head.{Head}
-use Rattle.heads.specs.declared.HeadRead.TheVariants.{Sound, Bad}
+use Rattle.refusals.specs.declared.Refusal.{Refusal}
 use Rattle.format.specs.Numbers.{small, bad_head}
 use Rattle.format.specs.Reading.{accepted, refused, read_head, dimension_fits, question_of, head_of, u16_at}
 
@@ -54,10 +56,10 @@ asks-one q d e = go (eqb q 1) refl (eqb q 2) refl e
     go false p true r e = inr (eqb-true q 2 r)
     go false p false r e = let z : ◌≡◌ {A = ℕ} 0 1 = cc in absurd (omega arith)
 
-pub sound-asks : (h : Head) (q d : ℕ) → h.question ≡ q → asks q d ≡ true → (g : Head) → Sound h ≡ Sound g → (g.question ≡ 1) ⊎ (g.question ≡ 2)
+pub sound-asks : (h : Head) (q d : ℕ) → h.question ≡ q → asks q d ≡ true → (g : Head) → ◌≡◌ {A = Result Head Refusal} (Ok h) (Ok g) → (g.question ≡ 1) ⊎ (g.question ≡ 2)
 sound-asks h q d e a g f =
     let same : h ≡ g = cc in
     subst (λ n. (n ≡ 1) ⊎ (n ≡ 2)) (sym e ∙ ap (λ x. x.question) same) (asks-one q d a)
 
-pub bad-asks : (g : Head) → Bad ≡ Sound g → (g.question ≡ 1) ⊎ (g.question ≡ 2)
+pub bad-asks : {e : Refusal} (g : Head) → ◌≡◌ {A = Result Head Refusal} (Err e) (Ok g) → (g.question ≡ 1) ⊎ (g.question ≡ 2)
 bad-asks g f = let z : ◌≡◌ {A = ℕ} 0 1 = cc in absurd (omega arith)

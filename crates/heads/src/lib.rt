@@ -5,18 +5,13 @@ ghost use Rattle.std.specs.Prelude.{◌≡◌, ◌&&◌, ◌||◌, eqb, leb, ◌
 ghost use Rattle.format.specs.Reading.{dimension_fits, question_of};
 ghost use Rattle.heads.specs.Meaning.{HeadKnown};
 
-#[derive(Clone, Copy)]
+use refusals::{Reason, Refusal};
+
+#[derive(Clone, Copy, Debug, PartialEq, Eq)]
 pub struct Head {
     pub question: u8,
     pub d: u8,
     pub v: u16,
-}
-
-// What a head's payload is: a sound head, or refusal 5.
-#[derive(Clone, Copy)]
-pub enum HeadRead {
-    Sound(Head),
-    Bad,
 }
 
 impl Head {
@@ -56,7 +51,8 @@ pub fn may_ask(question: usize, d: usize) -> bool
     false
 }
 
-pub fn read_head(p: &[u8]) -> HeadRead
+// A head's payload: 5 where the question, d or v is outside its range.
+pub fn read_head(p: &[u8]) -> Result<Head, Refusal>
     ensures { HeadKnown p.now result }
 {
     let question = records::byte_at(p, 0);
@@ -64,8 +60,11 @@ pub fn read_head(p: &[u8]) -> HeadRead
     let v = records::u16_at(p, 2);
     if may_ask(question, d) {
         if v <= Head::VERTICES {
-            return HeadRead::Sound(Head::new(question as u8, d as u8, v as u16));
+            return Ok(Head::new(question as u8, d as u8, v as u16));
         }
     }
-    HeadRead::Bad
+    Err(Refusal {
+        reason: Reason::Head,
+        place: 0,
+    })
 }

@@ -3,4 +3,3 @@
 pub mod Meaning
 pub mod Items
 pub mod Moved
-pub mod Verdicts
