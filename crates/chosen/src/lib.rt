@@ -8,17 +8,17 @@ ghost use Rattle.lookup.specs.Indexed.{Proper, Indexed};
 ghost use Rattle.lookup.specs.Numbered.{simplices_in};
 ghost use Rattle.chosen.specs.Meaning.{PositionsRead, WalkRead, step_at};
 
-use lists::{Found, Simplex, SimplexList, Verdict};
+use lists::{Found, Marks, Simplex};
+use refusals::{Reason, Refusal};
 
-// A verdict, and the marks beside it, which count only where nothing was refused. They stand bare, so that each is set where it is
-// handed back from.
+// The record that says what is asked about: which of the two it is, and the length of its payload.
 #[derive(Clone, Copy)]
-pub struct ChainRead {
-    pub verdict: Verdict,
-    pub on: [bool; SimplexList::LIMIT],
+pub enum ChainRecord {
+    Positions(usize),
+    Walk(usize),
 }
 
-impl ChainRead {
+impl ChainRecord {
     // the kinds of a chain record and of a walk, and their longest payload
     pub const CHAIN: u16 = 5;
 
@@ -28,35 +28,24 @@ impl ChainRead {
 }
 
 // Marks the positions of a chain record, two bytes each, which must rise strictly below `count`.
-pub fn read_positions(p: &[u8], base: usize, count: usize) -> ChainRead
+pub fn read_positions(p: &[u8], base: usize, count: usize) -> Result<Marks, Refusal>
     requires { (count ≤ 512) × (base ≤ 65536) }
     ensures { PositionsRead p.now base count result }
 {
-    let mut read = ChainRead {
-        verdict: Verdict::Fine,
-        on: [false; SimplexList::LIMIT],
-    };
+    let mut marks = Marks::none();
     let mut least = 0;
-    let mut at = 0;
-    while at + 1 < p.len() {
-        let position = records::u16_at(p, at);
+    for i in 0..p.len() / 2 {
+        let position = records::u16_at(p, 2 * i);
         if position < least {
-            return ChainRead {
-                verdict: Verdict::Refused(Verdict::CHAIN_ITEM, base + at),
-                on: [false; SimplexList::LIMIT],
-            };
+            return Err(Reason::ChainItem.at(base + 2 * i));
         }
         if count <= position {
-            return ChainRead {
-                verdict: Verdict::Refused(Verdict::CHAIN_ITEM, base + at),
-                on: [false; SimplexList::LIMIT],
-            };
+            return Err(Reason::ChainItem.at(base + 2 * i));
         }
-        read.on[position] = true;
+        marks.on[position] = true;
         least = position + 1;
-        at += 2;
     }
-    read
+    Ok(marks)
 }
 
 // The edge between two vertices, the lower one first.
@@ -97,27 +86,19 @@ pub fn read_walk(
     keys: &[u64],
     first: &[u16],
     next: &[u16],
-) -> ChainRead
+) -> Result<Marks, Refusal>
     requires base_bound { (base ≤ 65536) × (edges ≤ 512) }
     requires proper { Proper 2 (simplices_in 2 keys.now edges) }
     requires indexed { Indexed (simplices_in 2 keys.now edges) keys.now first.now next.now edges }
     ensures { WalkRead p.now base (simplices_in 2 keys.now edges) result }
 {
-    let mut on = [false; SimplexList::LIMIT];
-    let mut i = 0;
-    while i < p.len() {
+    let mut marks = Marks::none();
+    for i in 0..p.len() {
         let found = lookup::find(keys, first, next, edges, step_at(p, i));
         let Found::At(rank) = found else {
-            return ChainRead {
-                verdict: Verdict::Refused(Verdict::CHAIN_ITEM, base + i),
-                on,
-            };
+            return Err(Reason::ChainItem.at(base + i));
         };
-        on[rank] = true;
-        i += 1;
+        marks.on[rank] = true;
     }
-    ChainRead {
-        verdict: Verdict::Fine,
-        on,
-    }
+    Ok(marks)
 }

@@ -5,7 +5,7 @@ use Prim.Native.Nat.{ℕ, ◌+◌, ◌-◌, ◌*◌, ◌≤◌, ◌<◌}
 use native.Mathlib.Nat.{lt_of_mul-lt-mul_left, mul-add, mul-one, mul-zero, add_assoc, add-zero}
 use native.Mathlib.Omega.{arith}
 use native.Mathlib.Numerals.{add-one}
-use mathlib.Core.Path.{◌≡◌, refl, sym, ap, ◌∙◌, subst, subst₂}
+use mathlib.Core.Path.{◌≡◌, refl, sym, ap, ap₂, ◌∙◌, subst, subst₂}
 use mathlib.Core.Bool.{Bool, true, false, not, cond, ◌&&◌, false≢true}
 use mathlib.Core.List.{List, [], ◌∷◌, ◌++◌}
 use native.Mathlib.Decide.{ℕ_discrete}
@@ -19,7 +19,10 @@ use Rattle.format.specs.Reading.{Reading, refused, refuse_if, owed_facets, items
 use Rattle.format.specs.Items.{items-next, items-none}
 use Rattle.format.specs.Sound.{AllSound}
 use Rattle.lists.proofs.Four.{length_part}
-use Rattle.lists.specs.declared.Verdict.TheVariants.{Fine, Refused}
+use Rattle.std.proofs.Common.{Ok, Err}
+use Rattle.refusals.specs.Meaning.{number_of}
+use Rattle.refusals.specs.Numbers.{number-some}
+use Rattle.refusals.specs.declared.Reason.{Reason}
 use Rattle.lookup.specs.Indexed.{Proper, Keyed, Indexed, Blank, Entered}
 use Rattle.lookup.specs.IndexLaws.{proper-none, proper-more, indexed-none, indexed-more}
 use Rattle.lookup.specs.Numbered.{simplices_in}
@@ -119,7 +122,7 @@ module _ {p : List ℕ} {base v width : ℕ} where
     abbrev l : List format.Simplex
     l = simplices_in width keys count
 
-    pub taking-end : length p - at < width → ItemsTaken p base v width keys first next (record { verdict = Fine; count = count })
+    pub taking-end : length p - at < width → ItemsTaken p base v width keys first next (record { verdict = Ok tt; count = count })
     unfolding read_items
     taking-end short = record {
       reads = λ faces sound.
@@ -163,14 +166,15 @@ module _ {p : List ℕ} {base v width : ℕ} where
         number_is : r ≡ refusal_of width v l s
         number_is = judged l t.proper t.indexed.keyed
 
-        pub taking-refused : (r ≡ 0 → ⊥) → ItemsTaken p base v width keys first next (record { verdict = Refused r (base + at); count = count })
-        taking-refused some = record {
+        pub taking-refused : (reason : Reason) → r ≡ number_of reason → (place : ℕ) → place ≡ base + at
+            → ItemsTaken p base v width keys first next (record { verdict = Err (record { reason = reason; place = place }); count = count })
+        taking-refused reason is place here = record {
           reads = λ faces sound.
               t.rest faces sound ∙ faces-same width v faces base l _ _ (λ paid.
               ap (read_items width v faces (base + at) l) next-item
-              ∙ item_refused width v faces (base + at) l s _ (λ z. some (number_is ∙ z))
+              ∙ item_refused width v faces (base + at) l s _ (λ z. number-some reason (sym is ∙ number_is ∙ z))
               (λ wide again. paid-sound width v faces sound s item-wide wide (paid s again))
-              ∙ ap (λ (k : ℕ). refused k (base + at)) (sym number_is));
+              ∙ ap₂ refused (sym number_is ∙ is) (sym here));
           own = t.own;
           proper = t.proper;
           indexed = t.indexed;

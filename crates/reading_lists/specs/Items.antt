@@ -1,11 +1,14 @@
 -- The judgement of the items of a list: 7, and of edges 6, one by one, then 8 over those that were taken. A simplex whose facets
 -- are all listed is sound, since they are, so 6 is asked of one that is no edge only where it lacks a facet.
-use Rattle.std.specs.Prelude.{ℕ, ◌+◌, ◌-◌, ◌*◌, ◌^◌, ◌≤◌, ◌<◌, ◌≡◌, Bool, not, cond, ◌&&◌, List, [], ◌∷◌, length, get_or, take, drop, leb}
+use Rattle.std.specs.Prelude.{ℕ, ◌+◌, ◌-◌, ◌*◌, ◌^◌, ◌≤◌, ◌<◌, ◌≡◌, Bool, not, cond, ◌&&◌, List, [], ◌∷◌, length, get_or, take, drop, leb, Result}
+use Rattle.std.proofs.Common.{Ok, Err}
 use Rattle.format.specs.Numbers.{vertex, twice, face}
 use Rattle.format.specs.Simplex.{Simplex, sound_simplex, listed, all_listed}
 use Rattle.format.specs.Reading.{Reading, refuse_if, owed_facets, items_of, read_items}
 use Rattle.format.specs.Sound.{AllSound}
-use Rattle.lists.specs.Verdicts.{reading_of}
+use Rattle.refusals.specs.Meaning.{number_of}
+use Rattle.refusals.specs.Readings.{reading_of}
+use Rattle.refusals.specs.declared.Reason.{Reason}
 use Rattle.lookup.specs.Indexed.{Proper, Keyed, Indexed}
 use Rattle.lookup.specs.Numbered.{simplices_in}
 use Rattle.reading_lists.specs.declared.ItemsRead.{ItemsRead}
@@ -17,6 +20,11 @@ unsound_edge width v s = leb width 2 && not (sound_simplex v s)
 -- the first of 6, asked of edges, and 7 that refuses an item, behind the items `before`; 0 where neither does
 unfoldable pub refusal_of : (width v : ℕ) (before : List Simplex) → Simplex → ℕ
 refusal_of width v before s = cond (unsound_edge width v s) vertex (cond (listed s before) twice 0)
+
+-- the number of the reason for which an item is refused, 0 where it is not
+abbrev pub judgement_of : Result Unit Reason → ℕ
+judgement_of (Ok _) = 0
+judgement_of (Err reason) = number_of reason
 
 -- what an item that lacks a facet is refused with: 6 comes before 8
 unfoldable pub lack_of : ℕ → Simplex → ℕ
@@ -37,7 +45,7 @@ pub record FacesIn (width v : ℕ) (faces : List Simplex) (keys : List ℕ) (m :
 
 -- the simplices that were read, whose numbers are the first keys, or the refusal
 abbrev pub items_read : (width : ℕ) → List ℕ → ItemsRead → Reading (List Simplex)
-items_read width keys r = reading_of r.verdict (simplices_in width keys r.count)
+items_read width keys r = reading_of (λ _. simplices_in width keys r.count) r.verdict
 
 -- What a record of the right shape has: a list's width, no more items than a list holds, and places that are numbers of
 -- the machine.

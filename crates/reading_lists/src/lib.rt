@@ -7,14 +7,17 @@ ghost use Rattle.format.specs.Simplex.{sound_simplex, listed};
 ghost use Rattle.format.specs.Simplex as format;
 ghost use Rattle.keys.specs.Chained.{Chained};
 ghost use Rattle.lookup.specs.Indexed.{NumberOf, Keyed, Proper, Blank};
-ghost use Rattle.reading_lists.specs.Items.{refusal_of, Shaped, ItemsTaken, unsound_edge, lack_of};
+ghost use Rattle.refusals.specs.Meaning.{number_of};
+ghost use Rattle.reading_lists.specs.Items.{refusal_of, judgement_of, Shaped, ItemsTaken, unsound_edge, lack_of};
 
-use lists::{Found, Verdict};
+use lists::Found;
+use refusals::{Reason, Refusal};
 
-// What taking the items of a list comes to: how many are entered. Where one is refused, those before it are.
+// What taking the items of a list comes to: how many are entered. Where one is refused, those before it are, and rule 8 is still
+// asked of them, so the count stands beside the verdict.
 #[derive(Clone, Copy)]
 pub struct ItemsRead {
-    pub verdict: Verdict,
+    pub verdict: Result<(), Refusal>,
     pub count: usize,
 }
 
@@ -48,8 +51,7 @@ fn sound_at(p: &[u8], at: usize, width: usize, v: u16) -> bool
     ensures { result ≡ sound_simplex v (take width (drop at p.now)) }
 {
     let mut least: u16 = 0;
-    let mut i = 0;
-    while i < width {
+    for i in 0..width {
         let a = p[at + i] as u16;
         if a < least {
             return false;
@@ -58,7 +60,6 @@ fn sound_at(p: &[u8], at: usize, width: usize, v: u16) -> bool
             return false;
         }
         least = a + 1;
-        i += 1;
     }
     true
 }
@@ -88,18 +89,18 @@ fn unsound_edge(p: &[u8], at: usize, width: usize, v: u16) -> bool
 }
 
 // What an item that lacks a facet is refused with: 6 vertex comes before 8 face.
-pub fn lack_at(p: &[u8], at: usize, width: usize, v: u16) -> u16
+pub fn lack_at(p: &[u8], at: usize, width: usize, v: u16) -> Reason
     requires { at + width ≤ length p.now }
-    ensures { result ≡ lack_of v (take width (drop at p.now)) }
+    ensures { number_of result ≡ lack_of v (take width (drop at p.now)) }
 {
     if sound_at(p, at, width, v) {
-        return Verdict::FACE;
+        return Reason::Face;
     }
-    Verdict::VERTEX
+    Reason::Vertex
 }
 
 // The item at a place, which has a number, behind the n items entered: the first of 6 vertex, asked of edges, and 7 twice that
-// refuses it, or 0.
+// refuses it, if one does.
 fn judge(
     keys: &[u64],
     first: &[u16],
@@ -110,19 +111,19 @@ fn judge(
     number: u64,
     v: u16,
     width: usize,
-) -> u16
+) -> Result<(), Reason>
     requires chained { Chained keys.now first.now next.now n }
     requires width_in_bounds { at + width ≤ length p.now }
     requires number_of { NumberOf (take width (drop at p.now)) number }
-    ensures { (before : List format.Simplex) → Proper width before → Keyed before keys.now n → result ≡ refusal_of width v before (take width (drop at p.now)) }
+    ensures { (before : List format.Simplex) → Proper width before → Keyed before keys.now n → judgement_of result ≡ refusal_of width v before (take width (drop at p.now)) }
 {
     if unsound_edge(p, at, width, v) {
-        return Verdict::VERTEX;
+        return Err(Reason::Vertex);
     }
     if entered(keys, first, next, n, number) {
-        return Verdict::TWICE;
+        return Err(Reason::Twice);
     }
-    0
+    Ok(())
 }
 
 // The items of the payload `p`, which starts at `base` of the file, up to the first that `judge` refuses: their number, and that
@@ -141,23 +142,21 @@ pub fn take_items(
     requires blank { Blank first.old next.old }
     ensures { ItemsTaken p.now base v width keys.new first.new next.new result }
 {
-    let mut count = 0;
-    let mut at = 0;
-    while width <= p.len() - at {
+    let items = p.len() / width;
+    for count in 0..items {
+        let at = width * count;
         let number = number_at(p, at, width);
-        let refusal = judge(keys, first, next, count, p, at, number, v, width);
-        if refusal != 0 {
+        let judged = judge(keys, first, next, count, p, at, number, v, width);
+        if let Err(reason) = judged {
             return ItemsRead {
-                verdict: Verdict::Refused(refusal, base + at),
+                verdict: Err(reason.at(base + at)),
                 count,
             };
         }
         keys::link(keys, first, next, count, number);
-        count += 1;
-        at += width;
     }
     ItemsRead {
-        verdict: Verdict::Fine,
-        count,
+        verdict: Ok(()),
+        count: items,
     }
 }
