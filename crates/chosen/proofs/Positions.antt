@@ -1,6 +1,6 @@
 -- Reading positions: what is still to be checked and marked, together with what was, is always the whole.
 use Prim.Native.Nat.{ℕ, zero, suc, ◌+◌, ◌≤◌, ◌<◌}
-use mathlib.Core.Path.{◌≡◌, refl, sym, ◌∙◌, ap}
+use mathlib.Core.Path.{◌≡◌, refl, sym, ◌∙◌, ap, subst}
 use mathlib.Core.Bool.{Bool, true, false, ◌||◌, or-false, or-true}
 use mathlib.Core.List.{List, [], ◌∷◌}
 use native.Mathlib.Omega.{arith}
@@ -15,9 +15,10 @@ use Rattle.format.specs.Numbers.{chain_item}
 use Rattle.format.specs.Simplex.{all_below}
 use Rattle.format.specs.Reading.{Reading, accepted, refused, ◌and_then◌, u16_at, positions_of, rising_below}
 use Rattle.format.specs.Marks.{check_positions, positions-then, among}
-use Rattle.lists.specs.Verdicts.{reading_of}
-use Rattle.lists.specs.declared.Verdict.TheVariants.{Fine, Refused}
-use Rattle.chosen.specs.declared.ChainRead.{ChainRead}
+use Rattle.std.proofs.Common.{Ok, Err}
+use Rattle.refusals.specs.Readings.{refused_by, not_read, same_read}
+use Rattle.refusals.specs.declared.Refusal.{Refusal}
+use Rattle.lists.specs.declared.Marks.{Marks}
 use Rattle.chosen.specs.Meaning.{PositionsRead}
 
 -- the next position, while two bytes are left; none where fewer are
@@ -112,18 +113,13 @@ module _ {p : List ℕ} {base count : ℕ} {on : List Bool} {least at : ℕ} (no
   marking-marks i = sym (or-false (get_or on i false)) ∙ ap (λ x. get_or on i false || among i x) (sym none_left) ∙ now.marked i
 
 -- What is handed back with a refusal, and at the end.
-pub positions-refused : (p : List ℕ) (base count n q : ℕ) (on : List Bool) → rising_below count base 0 (positions_of p) ≡ refused n q → PositionsRead p base count (record { verdict = Refused n q; on = on })
-positions-refused p base count n q on e =
-    record {
-      verdict = e;
-      below = λ f. let z : ◌≡◌ {A = ℕ} 0 1 = cc in absurd (omega arith);
-      marks = λ f. let z : ◌≡◌ {A = ℕ} 0 1 = cc in absurd (omega arith);
-    }
+pub positions-refused : {p : List ℕ} {base count : ℕ} (e : Refusal) → rising_below count base 0 (positions_of p) ≡ refused_by e → PositionsRead p base count (Err e)
+positions-refused e is = record { reading = is; below = λ m f. absurd (not_read f); marks = λ m f. absurd (not_read f) }
 
-pub positions-read : {p : List ℕ} {base count : ℕ} (r : ChainRead) {least at : ℕ} → r.verdict ≡ Fine → Marking p base count r.on least at → length p ≤ at + 1 → PositionsRead p base count r
-positions-read {p} r fine now done =
+pub positions-read : {p : List ℕ} {base count : ℕ} (m : Marks) {least at : ℕ} → Marking p base count m.on least at → length p ≤ at + 1 → PositionsRead p base count (Ok m)
+positions-read {p} m now done =
     record {
-      verdict = marking-accepts now done ∙ ap (λ v. reading_of v (positions_of p)) (sym fine);
-      below = λ f. marking-below now done;
-      marks = λ f. marking-marks now done;
+      reading = marking-accepts now done;
+      below = λ n f. marking-below now done;
+      marks = λ n f. subst (λ (x : Marks). (i : ℕ) → get_or x.on i false ≡ among i (positions_of p)) (same_read f) (marking-marks now done);
     }

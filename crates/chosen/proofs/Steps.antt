@@ -16,7 +16,10 @@ use Rattle.format.specs.Simplex.{Simplex, same, rank, ranked, unlisted, listed}
 use Rattle.format.specs.Reading.{accepted, refused, edge_between, steps_from, steps, read_steps, walk_chain}
 use Rattle.format.specs.Listed.{is_ranked, listed-ranked, rank-stands}
 use Rattle.format.specs.Marks.{check_steps, steps_then, step-marks, Once}
-use Rattle.lists.specs.declared.Verdict.TheVariants.{Fine, Refused}
+use Rattle.std.proofs.Common.{Ok, Err}
+use Rattle.refusals.specs.Readings.{refused_by, not_read, same_read}
+use Rattle.refusals.specs.declared.Refusal.{Refusal}
+use Rattle.lists.specs.declared.Marks.{Marks}
 use Rattle.lists.specs.Meaning.{rank_of}
 use Rattle.lists.specs.declared.Found.{Found}
 use Rattle.lookup.specs.Indexed.{Proper, Keyed, Indexed}
@@ -81,15 +84,18 @@ module _ {p : List ℕ} {base : ℕ} {edges : List Simplex} {on : List Bool} {i 
       one once j h (no n) = rw (step-marks edges once (step_at p i) r e j h, get_or-set_other on r j true false n, ne_eqb j r n)
 
 -- What is handed back with a refusal, and at the end.
-pub walk_refused : {p : List ℕ} {base : ℕ} {edges : List Simplex} {n q : ℕ} (on : List Bool) → read_steps edges base (steps p) ≡ refused n q → WalkRead p base edges (record { verdict = Refused n q; on = on })
-walk_refused on e = record { verdict = e; marks = λ f. let z : ◌≡◌ {A = ℕ} 0 1 = cc in absurd (omega arith) }
+pub walk_refused : {p : List ℕ} {base : ℕ} {edges : List Simplex} (e : Refusal) → read_steps edges base (steps p) ≡ refused_by e → WalkRead p base edges (Err e)
+walk_refused e is = record { reading = is; marks = λ m f. absurd (not_read f) }
 
-pub walk-read : {p : List ℕ} {base : ℕ} {edges : List Simplex} (on : List Bool) {i : ℕ} → Walking p base edges on i → length p ≤ i → WalkRead p base edges (record { verdict = Fine; on = on })
+pub walk-read : {p : List ℕ} {base : ℕ} {edges : List Simplex} (m : Marks) {i : ℕ} → Walking p base edges m.on i → length p ≤ i → WalkRead p base edges (Ok m)
 unfolding check_steps walk_chain listed
-walk-read {p} {edges = edges} on {i} now done =
+walk-read {p} {edges = edges} m {i} now done =
     record {
-      verdict = now.rest ∙ rw (no_steps p i done);
-      marks = λ f once j h. sym (or-false (get_or on j false)) ∙ ap (λ x. get_or on j false || listed (get_or edges j []) x) (sym (no_steps p i done)) ∙ now.marked once j h;
+      reading = now.rest ∙ rw (no_steps p i done);
+      marks = λ n f.
+          subst (λ (x : Marks). Once edges → (j : ℕ) → j < length edges → get_or x.on j false ≡ walk_chain (steps p) (get_or edges j [])) (same_read f)
+          (λ once j h.
+          sym (or-false (get_or m.on j false)) ∙ ap (λ x. get_or m.on j false || listed (get_or edges j []) x) (sym (no_steps p i done)) ∙ now.marked once j h);
     }
 
 -- a rank in an index is below the list's limit

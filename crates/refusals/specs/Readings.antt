@@ -1,6 +1,6 @@
 -- What a reader answers, as the reading that crate `format` defines.
-use Rattle.std.specs.Prelude.{◌≡◌, refl, Result}
-use Rattle.std.proofs.Common.{Ok, Err, sym, ◌∙◌, ap}
+use Rattle.std.specs.Prelude.{ℕ, ◌≡◌, refl, Result}
+use Rattle.std.proofs.Common.{Ok, Err, sym, ◌∙◌, ap, arith}
 use Rattle.format.specs.Reading.{Reading, accepted, refused, ◌and_then◌}
 use Rattle.refusals.specs.Meaning.{number_of}
 use Rattle.refusals.specs.declared.Refusal.{Refusal}
@@ -27,3 +27,10 @@ reading-both (Err e) f g h = refl
 -- what an answer is known to be, put into what the answer means
 pub told : {A B : Type 0} (means : A → B) (answer known : A) (x : B) → means answer ≡ x → answer ≡ known → x ≡ means known
 told means answer known x e k = sym e ∙ ap means k
+
+-- what was read is no refusal, and it is one thing
+pub not_read : {A : Type 0} {e : Refusal} {a : A} → ◌≡◌ {A = Result A Refusal} (Err e) (Ok a) → ⊥
+not_read f = let z : ◌≡◌ {A = ℕ} 0 1 = cc in omega arith
+
+pub same_read : {A : Type 0} {a b : A} → ◌≡◌ {A = Result A Refusal} (Ok a) (Ok b) → a ≡ b
+same_read f = cc

@@ -1,5 +1,6 @@
 -- `chosen::read_walk` meets its contract: the loop keeps `Walking`, and each return is one of its ends.
-use mathlib.Core.Path.{◌≡◌, refl}
+use mathlib.Core.Path.{◌≡◌, sym, ap, ◌∙◌}
+use Rattle.refusals.specs.Readings.{refused_by}
 use Rattle.format.specs.Simplex.{rank}
 use Rattle.lists.specs.Meaning.{rank_of}
 use Rattle.lookup.specs.Numbered.{simplices_in}
@@ -10,7 +11,7 @@ use Rattle.chosen.proofs.read_walk.Goals.{After-find-found}
 use Rattle.chosen.proofs.read_walk.Goals as goal
 
 pub loop-i-init : goal.loop-i-init
-loop-i-init c = walking-starts _ _ _ _ refl
+loop-i-init c = walking-starts _ _ _ _ c.none-marks.ensures
 
 pub find-found-requires : goal.find-found-requires
 find-found-requires c = c.requires.indexed.chained
@@ -22,12 +23,12 @@ module _ (c : After-find-found) (f : Found) (told : c.find-found.result ≡ f) w
 
 pub returns-in_default : goal.returns-in_default
 returns-in_default c =
-    walk_refused c.loop-i.on
-    (walking-astray c.loop-i.invariant c.loop-i-test.true (found-rank (goal.at.returns-in_default c).After-find-found _ c.in_default.is))
+    walk_refused c.at.result
+    (walking-astray c.loop-i.invariant c.loop-i-test.true (found-rank (goal.at.returns-in_default c).After-find-found _ c.in_default.is) ∙ ap refused_by (sym c.at.ensures))
 
-pub bounds-on-rank : goal.bounds-on-rank
-bounds-on-rank c =
-    rank-few _ c.requires.base_bound.1 c.requires.indexed (found-rank (goal.at.bounds-on-rank c).After-find-found _ c.in-At.is)
+pub bounds-marks-rank : goal.bounds-marks-rank
+bounds-marks-rank c =
+    rank-few _ c.requires.base_bound.1 c.requires.indexed (found-rank (goal.at.bounds-marks-rank c).After-find-found _ c.in-At.is)
 
 pub loop-i-preserved : goal.loop-i-preserved
 loop-i-preserved c =
@@ -36,4 +37,4 @@ loop-i-preserved c =
     (rank-few _ c.requires.base_bound.1 c.requires.indexed found)
 
 pub returns : goal.returns
-returns c = walk-read c.loop-i.on c.loop-i.invariant c.loop-i-test.false
+returns c = walk-read c.loop-i.marks c.loop-i.invariant c.loop-i-test.false
