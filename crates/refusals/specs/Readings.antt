@@ -1,5 +1,5 @@
 -- What a reader answers, as the reading that crate `format` defines.
-use Rattle.std.specs.Prelude.{ℕ, ◌≡◌, refl, Result}
+use Rattle.std.specs.Prelude.{ℕ, ◌≡◌, refl, Result, IsErrAnd}
 use Rattle.std.proofs.Common.{Ok, Err, sym, ◌∙◌, ap, arith}
 use Rattle.format.specs.Reading.{Reading, accepted, refused, ◌and_then◌}
 use Rattle.refusals.specs.Meaning.{number_of}
@@ -34,3 +34,8 @@ not_read f = let z : ◌≡◌ {A = ℕ} 0 1 = cc in omega arith
 
 pub same_read : {A : Type 0} {a b : A} → ◌≡◌ {A = Result A Refusal} (Ok a) (Ok b) → a ≡ b
 same_read f = cc
+
+-- what a `?` hands up is the refusal that came
+pub handed_up : {A : Type 0} {e : Refusal} (r : Result A Refusal) → IsErrAnd r (λ x. x ≡ e) → r ≡ Err e
+handed_up (Ok a) p = absurd p
+handed_up (Err x) p = ap Err p

@@ -2,7 +2,7 @@
 use Prim.Native.Nat.{ℕ, ◌+◌, ◌*◌, ◌%◌, ◌≤◌, ◌<◌}
 use native.Mathlib.Nat.{mul-suc, mul-le-mul_left, le_of_mul-le-mul_left}
 use native.Mathlib.Omega.{arith}
-use mathlib.Core.Path.{◌≡◌, refl, sym, ◌∙◌, ap, subst, subst₂}
+use mathlib.Core.Path.{◌≡◌, refl, sym, ◌∙◌, ap, ap₂, subst}
 use mathlib.Core.Bool.{Bool, true, false, and-false}
 use mathlib.Core.List.{List, [], ◌++◌}
 use lib.ListN.{length, get_or, take, drop, take-append-drop, length-drop}
@@ -15,19 +15,17 @@ use Rattle.format.specs.Reading.{Reading, ◌and_then◌, accepted, refused, Lis
 use Rattle.format.specs.Items.{items-none}
 use Rattle.format.specs.Opened.{opened_from, opened, record-opened, opened_inside, payload-long}
 use Rattle.format.specs.Sound.{AllSound}
-use Rattle.lists.specs.declared.Verdict.{Verdict}
-use Rattle.lists.specs.declared.Verdict.TheVariants.{Refused}
-use Rattle.lists.specs.Verdicts.{reading_of, reading-then}
-use Rattle.lookup.specs.Indexed.{Proper, Blank, Indexed}
-use Rattle.lookup.specs.IndexLaws.{proper-none, indexed-none}
+use Rattle.std.proofs.Common.{Ok, Err}
+use Rattle.refusals.specs.Meaning.{number_of}
+use Rattle.refusals.specs.Readings.{reading_of, reading-then, not_read, same_read}
+use Rattle.refusals.specs.declared.Refusal.{Refusal}
 use Rattle.lookup.specs.Numbered.{simplices_in}
-use Rattle.lookup.specs.NumberedLaws.{none_in}
 use Rattle.lookup.specs.Sides.{Sided, SidesTold}
-use Rattle.reading_lists.specs.Items.{lack_of, faces_judged, Shaped, ItemsTaken}
+use Rattle.reading_lists.specs.Items.{lack_of, Shaped, ItemsTaken}
 use Rattle.reading_lists.specs.declared.ItemsRead.{ItemsRead}
 use Rattle.reading_lists.proofs.Facing.{Paid, edge-owes-none, others-owe, faces-listed, first-lacks}
-use Rattle.stages.specs.Meaning.{size_of, end_at, list_read, ListTaken, FacesFound}
-use Rattle.stages.specs.declared.ListRead.{ListRead}
+use Rattle.stages.specs.Meaning.{size_of, end_at, TakenList, SidedList, FacesFound}
+use Rattle.stages.specs.declared.Taken.{Taken}
 
 module _ (may : ℕ → Bool) (b : List ℕ) (at : ℕ) where
   pub opened-ended : header_at b at ≡ ended → opened may b at ≡ refused wrong_kind at
@@ -56,9 +54,9 @@ end-within b at kind beyond le = go (opened (eqb kind) b at) refl
 
 -- THE LIST STAGE.
 module _ (b : List ℕ) (at kind v : ℕ) (faces : List Simplex) where
-  pub list-refused : (number : ℕ) → opened (eqb kind) b at ≡ refused number at → read_list small b at kind v faces ≡ refused number at
+  pub list-refused : (number place : ℕ) → opened (eqb kind) b at ≡ refused number place → read_list small b at kind v faces ≡ refused number place
   unfolding read_list
-  list-refused number e = rw (record-opened (λ _ p. list_fits small kind p) b at kind, e)
+  list-refused number place e = rw (record-opened (λ _ p. list_fits small kind p) b at kind, e)
 
   module _ (size : ℕ) (whole : opened (eqb kind) b at ≡ accepted size) where
     long : length (payload_at b at size) ≡ size
@@ -87,28 +85,7 @@ module _ (b : List ℕ) (at kind v : ℕ) (faces : List Simplex) where
         list_read_lem even (omega arith) (accepted [])
         (rw (items-none kind (payload_at b at size) (omega (arith, long, none))) refl)
 
--- WHAT IS TAKEN. A record that is refused as a whole leaves the lent arrays as they were.
-pub taken_refused : {b : List ℕ} {at kind v : ℕ} {keys first next : List ℕ} {n : ℕ} (r : ListRead)
-    → (r.verdict ≡ Refused n at) × (r.count ≡ 0) → Blank first next
-    → ((faces : List Simplex) → read_list small b at kind v faces ≡ refused n at) → ListTaken b at kind v keys first next r
-taken_refused {b} {at} {kind} {v} {keys} {first} {next} r e blank is = record {
-  reads = λ faces sound.
-      let behind : Reading (List Simplex) → Reading Listing = λ x. x and_then λ l. accepted (record { list = l; next = r.next }) in
-      is faces
-      ∙ sym (ap (λ (l : List Simplex). behind (faces_judged kind v faces (at + header_bytes) l (reading_of r.verdict l))) none
-      ∙ ap behind (faces-listed kind v faces (at + header_bytes) [] (reading_of r.verdict []) (λ i lt. absurd (omega arith)))
-      ∙ ap (λ (x : Verdict). behind (reading_of x [])) e.0);
-  own = λ i lt. absurd (omega (arith, e.1));
-  proper = subst (Proper kind) (sym none) (proper-none kind);
-  indexed = subst₂ (λ (l : List Simplex) (k : ℕ). Indexed l keys first next k) (sym none) (sym e.1) (indexed-none blank.none);
-  few = omega (arith, e.1);
-  within = λ some. absurd (omega (arith, e.1));
-  ends = λ fine. let z : ◌≡◌ {A = ℕ} 0 1 = cc in absurd (omega arith);
-}
-  where
-    none : simplices_in kind keys r.count ≡ []
-    none = ap (simplices_in kind keys) e.1 ∙ none_in kind keys
-
+-- WHAT IS TAKEN.
 -- a part of a front is that part of the whole
 part_of : (p q : List ℕ) (i width : ℕ) → i + width ≤ length p → take width (drop i p) ≡ take width (drop i (p ++ q))
 part_of p q i width inside =
@@ -127,7 +104,7 @@ module _ (b : List ℕ) (at kind v size : ℕ) {p keys first next : List ℕ} {r
   in-payload {i} lt = omega (arith, mul-le-mul_left kind lt, mul-suc kind i, taken.within, payload-size, payload-long b at size inside)
 
   pub list-taken : size % kind ≡ 0 → size ≤ kind * 512
-      → ListTaken b at kind v keys first next (record { verdict = r.verdict; count = r.count; next = at + header_bytes + size })
+      → TakenList b at kind v keys first next (record { verdict = r.verdict; count = r.count; next = at + header_bytes + size })
   list-taken even fits = record {
     reads = λ faces sound.
         list_read_lem b at kind v faces size whole even fits _
@@ -141,11 +118,11 @@ module _ (b : List ℕ) (at kind v size : ℕ) {p keys first next : List ℕ} {r
     indexed = taken.indexed;
     few = le_of_mul-le-mul_left {k = kind} (omega (arith, taken.within, shape)) (omega (arith, shape));
     within = λ some. omega (arith, taken.within, inside, payload-size);
-    ends = λ fine. ap (λ (s : ℕ). at + header_bytes + s) (sym (ap size_of whole));
+    ends = ap (λ (s : ℕ). at + header_bytes + s) (sym (ap size_of whole));
   }
 
 -- RULE 8 over what was taken.
-module _ {b : List ℕ} {at kind v : ℕ} {keys first next : List ℕ} {taken : ListRead} (told : ListTaken b at kind v keys first next taken)
+module _ {b : List ℕ} {at kind v : ℕ} {keys first next : List ℕ} {taken : Taken} (told : TakenList b at kind v keys first next taken)
     (faces : List Simplex) (sound : AllSound v faces) where
   abbrev list : List Simplex
   list = simplices_in kind keys taken.count
@@ -154,40 +131,48 @@ module _ {b : List ℕ} {at kind v : ℕ} {keys first next : List ℕ} {taken : 
   behind x = x and_then λ l. accepted (record { list = l; next = taken.next })
 
   -- where it refuses none, what was told when they were taken stands
-  kept : ((i : ℕ) → i < taken.count → Paid kind v faces (get_or list i [])) → list_read kind keys taken ≡ read_list small b at kind v faces
+  kept : ((i : ℕ) → i < taken.count → Paid kind v faces (get_or list i []))
+      → reading_of (λ _. record { list = list; next = taken.next }) taken.verdict ≡ read_list small b at kind v faces
   kept paid =
       sym (told.reads faces sound
-      ∙ ap behind (faces-listed kind v faces (at + header_bytes) list (reading_of taken.verdict list) (λ i lt. paid i (omega (arith, told.indexed.keyed.count))))
-      ∙ reading-then taken.verdict list (λ l. record { list = l; next = taken.next }))
+      ∙ ap behind (faces-listed kind v faces (at + header_bytes) list (reading_of (λ _. list) taken.verdict) (λ i lt. paid i (omega (arith, told.indexed.keyed.count))))
+      ∙ reading-then taken.verdict (λ _. list) (λ l. record { list = l; next = taken.next }))
 
   -- it asks nothing of edges
-  pub edges-read : kind ≤ 2 → list_read kind keys taken ≡ read_list small b at kind v faces
+  pub edges-read : kind ≤ 2 → reading_of (λ _. record { list = list; next = taken.next }) taken.verdict ≡ read_list small b at kind v faces
   edges-read edges = kept (λ i lt. edge-owes-none kind _ faces edges)
 
   module _ (wide : 2 < kind) {sides : List ℕ} {found : ℕ} (looked : SidesTold faces list sides taken.count found) where
     paid : (i : ℕ) → i < found → Paid kind v faces (get_or list i [])
     paid i lt = others-owe kind _ faces true wide (looked.listed i lt)
 
-    pub all_found : taken.count ≤ found → FacesFound b at kind v faces keys sides taken taken
-    all_found end = record {
-      reads = kept (λ i lt. paid i (omega arith));
-      count = refl;
-      sided = λ fine.
-          let all : found ≡ taken.count = omega (arith, looked.within) in
-          subst (Sided faces list sides) all looked.sided;
-      fine = λ _. refl;
+    -- all are found: the list is read where no item was refused, and else that item is
+    pub all_found : taken.count ≤ found → taken.verdict ≡ Ok tt → FacesFound b at kind v faces keys sides taken (Ok (record { count = taken.count; next = taken.next }))
+    all_found end fine = record {
+      reads = sym (ap (reading_of (λ _. record { list = list; next = taken.next })) fine) ∙ kept (λ i lt. paid i (omega arith));
+      found = λ l is. subst (SidedList faces kind keys sides taken) (same_read is) (record {
+        fine = fine;
+        count = refl;
+        next = refl;
+        sided =
+            let all : found ≡ taken.count = omega (arith, looked.within) in
+            subst (Sided faces list sides) all looked.sided;
+      });
     }
 
-    pub lacking-refused : {refusal : ℕ} → found < taken.count → refusal ≡ lack_of v (take kind (drop (at + header_bytes + kind * found) b))
-        → FacesFound b at kind v faces keys sides taken
-        (record { verdict = Refused refusal (at + header_bytes + kind * found); count = taken.count; next = at })
-    lacking-refused lt lack = record {
+    pub taken_refused : {e : Refusal} → taken.count ≤ found → taken.verdict ≡ Err e → FacesFound b at kind v faces keys sides taken (Err e)
+    taken_refused end is = record {
+      reads = sym (ap (reading_of (λ _. record { list = list; next = taken.next })) is) ∙ kept (λ i lt. paid i (omega arith));
+      found = λ l z. absurd (not_read z);
+    }
+
+    pub lacking-refused : (e : Refusal) → found < taken.count → number_of e.reason ≡ lack_of v (take kind (drop (at + header_bytes + kind * found) b))
+        → e.place ≡ at + header_bytes + kind * found → FacesFound b at kind v faces keys sides taken (Err e)
+    lacking-refused e lt lack here = record {
       reads =
-          ap (λ (k : ℕ). refused k (at + header_bytes + kind * found)) (lack ∙ ap (lack_of v) (sym (told.own found lt)))
+          ap₂ refused (lack ∙ ap (lack_of v) (sym (told.own found lt))) here
           ∙ sym (told.reads faces sound
-          ∙ ap behind (first-lacks kind v faces (at + header_bytes) list (reading_of taken.verdict list) found (omega (arith, told.indexed.keyed.count)) paid
+          ∙ ap behind (first-lacks kind v faces (at + header_bytes) list (reading_of (λ _. list) taken.verdict) found (omega (arith, told.indexed.keyed.count)) paid
           (others-owe kind _ faces false wide (looked.lacking lt))));
-      count = refl;
-      sided = λ fine. let z : ◌≡◌ {A = ℕ} 0 1 = cc in absurd (omega arith);
-      fine = λ fine. let z : ◌≡◌ {A = ℕ} 0 1 = cc in absurd (omega arith);
+      found = λ l z. absurd (not_read z);
     }

@@ -7,75 +7,58 @@ ghost use Rattle.keys.specs.Chained.{Chained};
 ghost use Rattle.lookup.specs.Indexed.{Blank};
 ghost use Rattle.format.specs.Simplex.{Simplex};
 ghost use Rattle.reading_lists.specs.Items.{FacesIn};
-ghost use Rattle.stages.specs.Meaning.{opened_of, size_at, RoomAt, ListOpened, NothingRead, ListTaken, FacesFound};
+ghost use Rattle.stages.specs.Meaning.{opened_of, size_at, RoomAt, ListOpened, NothingRead, ListTaken, TakenList, FacesFound};
 
-use lists::{SimplexList, Verdict};
+use lists::SimplexList;
 use records::Header;
+use refusals::{Reason, Refusal};
 
-// A record that stands at a place: the length of its payload, or the refusal's number.
-#[derive(Clone, Copy)]
-pub enum Opened {
-    Size(usize),
-    Refused(u16),
-}
-
-// Opens the record at a place, where only this kind may stand.
-pub fn open(job: &[u8], at: usize, kind: u16) -> Opened
-    ensures { opened_of at result ≡ opened (eqb kind) job.now at }
+// Opens the record at a place, where only this kind may stand: the length of its payload.
+pub fn open(job: &[u8], at: usize, kind: u16) -> Result<usize, Refusal>
+    ensures { opened_of result ≡ opened (eqb kind) job.now at }
 {
-    let header = records::header_at(job, at);
-    match header {
-        Header::Ended => Opened::Refused(Verdict::KIND),
-        Header::Broken => Opened::Refused(Verdict::CUT),
+    match records::header_at(job, at) {
+        Header::Ended => Err(Reason::Kind.at(at)),
+        Header::Broken => Err(Reason::Cut.at(at)),
         Header::Whole(found, size) => {
-            if found == kind {
-                Opened::Size(size)
-            } else {
-                Opened::Refused(Verdict::KIND)
+            if found != kind {
+                return Err(Reason::Kind.at(at));
             }
+            Ok(size)
         }
     }
 }
 
-// What reading a list record comes to: how many simplices are entered, and the offset of the record behind its own.
+// A list that was read: how many simplices are entered, and the offset of the record behind its own.
 #[derive(Clone, Copy)]
 pub struct ListRead {
-    pub verdict: Verdict,
     pub count: usize,
     pub next: usize,
 }
 
-impl ListRead {
-    fn refused(number: u16, at: usize) -> Self
-        ensures { (result.verdict ≡ Verdict.Refused number at) × (result.count ≡ 0) }
-    {
-        ListRead {
-            verdict: Verdict::Refused(number, at),
-            count: 0,
-            next: at,
-        }
-    }
+// What was taken of a list, up to the first item that is refused by 7 or, among edges, by 6. Rule 8 is still asked of the items
+// before that one, so their count stands beside the verdict.
+#[derive(Clone, Copy)]
+pub struct Taken {
+    pub verdict: Result<(), Refusal>,
+    pub count: usize,
+    pub next: usize,
 }
 
 // Opens the list record of one kind at a place: 4 where it does not hold whole items, or too many of them.
-fn open_list(job: &[u8], at: usize, kind: u16) -> Opened
+fn open_list(job: &[u8], at: usize, kind: u16) -> Result<usize, Refusal>
     requires { 2 ≤ kind }
     ensures { ListOpened job.now at kind result }
 {
-    let opened = open(job, at, kind);
-    match opened {
-        Opened::Refused(number) => Opened::Refused(number),
-        Opened::Size(size) => {
-            let width = kind as usize;
-            if size % width != 0 {
-                return Opened::Refused(Verdict::SHAPE);
-            }
-            if width * SimplexList::LIMIT < size {
-                return Opened::Refused(Verdict::SHAPE);
-            }
-            Opened::Size(size)
-        }
+    let size = open(job, at, kind)?;
+    let width = kind as usize;
+    if size % width != 0 {
+        return Err(Reason::Shape.at(at));
     }
+    if width * SimplexList::LIMIT < size {
+        return Err(Reason::Shape.at(at));
+    }
+    Ok(size)
 }
 
 // How many bytes the list record of one kind at a place holds, 0 where none stands there. Whether the list is sound is not looked
@@ -83,31 +66,23 @@ fn open_list(job: &[u8], at: usize, kind: u16) -> Opened
 pub fn list_bytes(job: &[u8], at: usize, kind: u16) -> usize
     ensures { result ≡ size_at job.now at kind }
 {
-    let opened = open(job, at, kind);
-    match opened {
-        Opened::Refused(_) => 0,
-        Opened::Size(size) => size,
-    }
+    open(job, at, kind).unwrap_or(0)
 }
 
 // Reads a list record that has no items.
-pub fn read_nothing(job: &[u8], at: usize, kind: u16) -> ListRead
+pub fn read_nothing(job: &[u8], at: usize, kind: u16) -> Result<ListRead, Refusal>
     requires le_kind { 2 ≤ kind }
     requires room_at { RoomAt job.now at kind 0 }
     ensures { NothingRead job.now at kind result }
 {
-    let opened = open_list(job, at, kind);
-    match opened {
-        Opened::Refused(number) => ListRead::refused(number, at),
-        Opened::Size(size) => ListRead {
-            verdict: Verdict::Fine,
-            count: 0,
-            next: at + Header::BYTES + size,
-        },
-    }
+    let size = open_list(job, at, kind)?;
+    Ok(ListRead {
+        count: 0,
+        next: at + Header::BYTES + size,
+    })
 }
 
-// Reads the list record of one kind at a place: its items are taken up to the first that is refused by 7 or, among edges, by 6.
+// Reads a list record of one kind at a place: its items are taken up to the first that is refused by 7 or, among edges, by 6.
 // They are entered, so their numbers stand in the keys.
 pub fn read_list(
     job: &[u8],
@@ -117,28 +92,23 @@ pub fn read_list(
     keys: &mut [u64],
     first: &mut [u16],
     next: &mut [u16],
-) -> ListRead
+) -> Result<Taken, Refusal>
     requires le_kind { (2 ≤ kind) × (kind ≤ 4) }
     requires room_at { RoomAt job.now at kind (length keys.old) }
     requires blank { Blank first.old next.old }
     ensures { ListTaken job.now at kind v keys.new first.new next.new result }
 {
-    let opened = open_list(job, at, kind);
-    match opened {
-        Opened::Refused(number) => ListRead::refused(number, at),
-        Opened::Size(size) => {
-            let start = at + Header::BYTES;
-            let p = records::payload(job, at, size);
-            let taken = reading_lists::take_items(p, start, v, kind as usize, keys, first, next);
-            let verdict = taken.verdict;
-            let count = taken.count;
-            ListRead {
-                verdict,
-                count,
-                next: start + size,
-            }
-        }
-    }
+    let size = open_list(job, at, kind)?;
+    let start = at + Header::BYTES;
+    let p = records::payload(job, at, size);
+    let items = reading_lists::take_items(p, start, v, kind as usize, keys, first, next);
+    let verdict = items.verdict;
+    let count = items.count;
+    Ok(Taken {
+        verdict,
+        count,
+        next: start + size,
+    })
 }
 
 // Looks up the facets of what was taken of the triangles or tetrahedra whose record stands at a place, among the m faces entered,
@@ -154,13 +124,13 @@ pub fn find_faces(
     m: usize,
     keys: &[u64],
     sides: &mut [u64],
-    taken: ListRead,
-) -> ListRead
+    taken: Taken,
+) -> Result<ListRead, Refusal>
     requires lt_kind { (2 < kind) × (kind ≤ 4) × (m ≤ 65536) }
     requires chained { Chained face_keys.now face_first.now face_next.now m }
     requires count_in_bounds { (taken.count ≤ length keys.now) × (taken.count ≤ length sides.old) }
     requires count_in_bounds_2 { 0 < taken.count → at + 6 + kind * taken.count ≤ length job.now }
-    ensures { (first next : List ℕ) → ListTaken job.now at kind v keys.now first next taken → (faces : List Simplex) → FacesIn kind v faces face_keys.now m → FacesFound job.now at kind v faces keys.now sides.new taken result }
+    ensures { (first next : List ℕ) → TakenList job.now at kind v keys.now first next taken → (faces : List Simplex) → FacesIn kind v faces face_keys.now m → FacesFound job.now at kind v faces keys.now sides.new taken result }
 {
     let width = kind as usize;
     let count = taken.count;
@@ -169,12 +139,13 @@ pub fn find_faces(
     );
     if found < count {
         let place = at + Header::BYTES + width * found;
-        let refusal = reading_lists::lack_at(job, place, width, v);
-        return ListRead {
-            verdict: Verdict::Refused(refusal, place),
-            count,
-            next: at,
-        };
+        let reason = reading_lists::lack_at(job, place, width, v);
+        return Err(reason.at(place));
     }
-    taken
+    let verdict = taken.verdict;
+    verdict?;
+    Ok(ListRead {
+        count,
+        next: taken.next,
+    })
 }

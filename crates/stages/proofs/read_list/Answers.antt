@@ -6,19 +6,30 @@ use mathlib.Core.Path.{◌≡◌, ◌∙◌, ap, subst}
 use lib.ListN.{length}
 use lib.Dec.{eqb}
 use Rattle.format.specs.Opened.{opened_inside, payload-long}
+use Rattle.lookup.specs.IndexLaws.{indexed-none}
+use Rattle.refusals.specs.Readings.{handed_up}
 use Rattle.reading_lists.specs.Items.{Shaped}
 use Rattle.stages.specs.Meaning.{size_of, size_at, ListOpened, SizedList}
-use Rattle.stages.proofs.Laws.{taken_refused, list-taken}
-use Rattle.stages.proofs.read_list.Goals.{After-payload-p, In-Size}
+use Rattle.stages.proofs.Laws.{list-taken}
+use Rattle.stages.proofs.read_list.Goals.{After-payload-p, In_ok-size}
 use Rattle.stages.proofs.read_list.Goals as goal
 
+pub returns-in_err-size : goal.returns-in_err-size
+returns-in_err-size c =
+    let a = c.args in
+    rw (handed_up c.from_residual.result c.from_residual.ensures.1)
+    (record {
+      reads = λ faces. subst (ListOpened a.job.now a.at a.kind) c.in_err-size.was c.open_list.ensures a.v faces;
+      indexed = indexed-none c.requires.blank.none;
+    })
+
 -- the record stands there, with so many bytes behind its header
-module _ (c : In-Size) where
+module _ (c : In_ok-size) where
   abbrev size : ℕ
-  size = c.in-Size.size
+  size = c.in_ok-size.size
 
   sized : SizedList c.args.job.now c.args.at c.args.kind size
-  sized = subst (ListOpened c.args.job.now c.args.at c.args.kind) c.in-Size.is c.open_list-opened.ensures
+  sized = subst (ListOpened c.args.job.now c.args.at c.args.kind) c.in_ok-size.was c.open_list.ensures
 
   -- and there is room for its items
   roomy : size ≤ c.args.kind * length c.args.keys.now
@@ -37,11 +48,11 @@ pub overflow_add-start : goal.overflow_add-start
 overflow_add-start c = omega (arith, inside c)
 
 -- the payload has the shape of a list
-module _ (c : After-payload-p) (sized : SizedList c.args.job.now c.args.at c.args.kind c.in-Size.size) (inside : c.args.at + 6 + c.in-Size.size ≤ length c.args.job.now) where
-  long : length c.payload-p.result.now ≡ c.in-Size.size
+module _ (c : After-payload-p) (sized : SizedList c.args.job.now c.args.at c.args.kind c.in_ok-size.size) (inside : c.args.at + 6 + c.in_ok-size.size ≤ length c.args.job.now) where
+  long : length c.payload-p.result.now ≡ c.in_ok-size.size
   long =
       let a = c.args in
-      ap length c.payload-p.ensures ∙ payload-long a.job.now a.at c.in-Size.size inside
+      ap length c.payload-p.ensures ∙ payload-long a.job.now a.at c.in_ok-size.size inside
 
   shaped : Shaped c.payload-p.result.now (c.args.at + 6) c.args.kind
   shaped = record {
@@ -51,22 +62,19 @@ module _ (c : After-payload-p) (sized : SizedList c.args.job.now c.args.at c.arg
     places = omega (arith, long, inside, c.well_formed.0.0);
   }
 
-pub take_items-taken-requires : goal.take_items-taken-requires
-take_items-taken-requires c =
-    record { shaped = shaped (goal.at.take_items-taken-requires c).After-payload-p (sized (goal.at.take_items-taken-requires c).In-Size) (inside (goal.at.take_items-taken-requires c).In-Size); p_len_bound = omega (arith, long (goal.at.take_items-taken-requires c).After-payload-p (sized (goal.at.take_items-taken-requires c).In-Size) (inside (goal.at.take_items-taken-requires c).In-Size), roomy (goal.at.take_items-taken-requires c).In-Size); blank = c.requires.blank }
+pub take_items-items-requires : goal.take_items-items-requires
+take_items-items-requires c =
+    let ok = (goal.at.take_items-items-requires c).In_ok-size in
+    let p = (goal.at.take_items-items-requires c).After-payload-p in
+    record { shaped = shaped p (sized ok) (inside ok); p_len_bound = omega (arith, long p (sized ok) (inside ok), roomy ok); blank = c.requires.blank }
 
 pub overflow_add-result : goal.overflow_add-result
-overflow_add-result c = omega (arith, fits (goal.at.overflow_add-result c).In-Size)
+overflow_add-result c = omega (arith, fits (goal.at.overflow_add-result c).In_ok-size)
 
-pub returns-in-Refused : goal.returns-in-Refused
-returns-in-Refused c =
+pub returns : goal.returns
+returns c =
     let a = c.args in
-    taken_refused c.refused.result c.refused.ensures c.requires.blank
-    (λ faces. subst (ListOpened a.job.now a.at a.kind) c.in-Refused.is c.open_list-opened.ensures a.v faces)
-
-pub returns-in-Size : goal.returns-in-Size
-returns-in-Size c =
-    let a = c.args in
-    let list = sized (goal.at.returns-in-Size c).In-Size in
-    list-taken a.job.now a.at a.kind a.v (size (goal.at.returns-in-Size c).In-Size) list.stands c.payload-p.ensures (shaped (goal.at.returns-in-Size c).After-payload-p (sized (goal.at.returns-in-Size c).In-Size) (inside (goal.at.returns-in-Size c).In-Size)) c.take_items-taken.ensures
+    let ok = (goal.at.returns c).In_ok-size in
+    let list = sized ok in
+    list-taken a.job.now a.at a.kind a.v (size ok) list.stands c.payload-p.ensures (shaped (goal.at.returns c).After-payload-p list (inside ok)) c.take_items-items.ensures
     list.even list.fits

@@ -2,25 +2,25 @@
 -- Assumes nothing.
 use Prim.Native.Nat.{ℕ, ◌+◌, ◌^◌, ◌<◌}
 use native.Mathlib.Omega.{arith}
-use mathlib.Core.Path.{◌≡◌, refl, sym, ◌∙◌, ap, subst}
+use mathlib.Core.Path.{◌≡◌, sym, ◌∙◌, ap, subst}
 use lib.Dec.{eqb}
 use Rattle.format.specs.Reading.{accepted}
 use Rattle.format.specs.Opened.{opened_inside}
-use Rattle.lists.specs.Verdicts.{reading_of}
-use Rattle.lookup.specs.Numbered.{simplices_in}
 use Rattle.lookup.specs.NumberedLaws.{none_in}
+use Rattle.refusals.specs.Readings.{handed_up, not_read, same_read}
 use Rattle.stages.specs.Meaning.{size_of, size_at, ListOpened, SizedList}
+use Rattle.stages.specs.declared.ListRead.{ListRead}
 use Rattle.stages.proofs.Laws.{list-nothing}
-use Rattle.stages.proofs.read_nothing.Goals.{In-Size}
+use Rattle.stages.proofs.read_nothing.Goals.{In_ok-size}
 use Rattle.stages.proofs.read_nothing.Goals as goal
 
 -- a record of a list's shape stands there
-module _ (c : In-Size) where
+module _ (c : In_ok-size) where
   abbrev size : ℕ
-  size = c.in-Size.size
+  size = c.in_ok-size.size
 
   sized : SizedList c.args.job.now c.args.at c.args.kind size
-  sized = subst (ListOpened c.args.job.now c.args.at c.args.kind) c.in-Size.is c.open_list-opened.ensures
+  sized = subst (ListOpened c.args.job.now c.args.at c.args.kind) c.in_ok-size.was c.open_list.ensures
 
   none : size ≡ 0
   none =
@@ -33,25 +33,24 @@ module _ (c : In-Size) where
 pub overflow_add-result : goal.overflow_add-result
 overflow_add-result c = omega (arith, fits c)
 
-pub overflow_add-result-in-Size : goal.overflow_add-result-in-Size
-overflow_add-result-in-Size c = omega (arith, fits c)
+pub overflow_add-result-2 : goal.overflow_add-result-2
+overflow_add-result-2 c = omega (arith, fits c)
 
-pub returns-in-Refused : goal.returns-in-Refused
-returns-in-Refused c =
+pub returns-in_err-size : goal.returns-in_err-size
+returns-in_err-size c =
     let a = c.args in
-    record {
-      reads = λ v faces keys.
-          ap (λ x. reading_of x (record { list = simplices_in a.kind keys c.refused.result.count; next = c.refused.result.next })) c.refused.ensures.0
-          ∙ sym (subst (ListOpened a.job.now a.at a.kind) c.in-Refused.is c.open_list-opened.ensures v faces);
-      none = c.refused.ensures.1;
-    }
+    rw (handed_up c.from_residual.result c.from_residual.ensures.1)
+    (record {
+      reads = λ v faces keys. sym (subst (ListOpened a.job.now a.at a.kind) c.in_err-size.was c.open_list.ensures v faces);
+      none = λ l f. absurd (not_read f);
+    })
 
-pub returns-in-Size : goal.returns-in-Size
-returns-in-Size c =
+pub returns : goal.returns
+returns c =
     let a = c.args in
     record {
       reads = λ v faces keys.
           ap (λ l. accepted (record { list = l; next = a.at + 6 + size c })) (none_in a.kind keys)
           ∙ sym (list-nothing a.job.now a.at a.kind v faces (size c) (sized c).stands (sized c).even (none c) (omega (arith, c.requires.le_kind)));
-      none = refl;
+      none = λ l f. sym (ap (λ (x : ListRead). x.count) (same_read f));
     }
