@@ -12,15 +12,16 @@ use Rattle.format.specs.Simplex.{Simplex, SimplexSet, Complex, simplices, all_be
 use Rattle.format.specs.Reading.{Reading, accepted, refused, ended, broken, whole, header_at, payload_at, Record, record_from, record_at, may_ask, chain_fits, chosen_by, rising_below, positions_of, named, read_steps, steps, walk_chain, read_chain}
 use Rattle.format.specs.Opened.{whole-inside, payload-long}
 use Rattle.format.specs.Marks.{Once, named-marks}
-use Rattle.lists.specs.Verdicts.{reading_of, reading-both}
-use Rattle.lists.specs.declared.Verdict.{Verdict}
-use Rattle.lists.specs.declared.Verdict.TheVariants.{Refused}
+use Rattle.std.specs.Prelude.{Result}
+use Rattle.std.proofs.Common.{Ok, Err}
+use Rattle.refusals.specs.Readings.{refused_by, reading_of, reading-both, not_read, same_read}
+use Rattle.refusals.specs.declared.Refusal.{Refusal}
 use Rattle.format.proofs.Accepted.{record-fits}
 use Rattle.lists.specs.declared.Marks.{Marks}
 use Rattle.chosen.specs.Meaning.{PositionsRead, WalkRead}
-use Rattle.chosen.specs.declared.ChainRead.{ChainRead}
 use Rattle.complexes.specs.Meaning.{Marked}
 use Rattle.chain_stage.specs.Meaning.{record_of_kind, ChainStageRead}
+use Rattle.chain_stage.specs.declared.ChainStage.{ChainStage}
 
 -- OPENING, case by case of the header, the kind and the length.
 module _ (b : List ℕ) (at dim : ℕ) where
@@ -69,22 +70,22 @@ module _ (b : List ℕ) (at dim : ℕ) where
 
 -- READING, once the record is opened.
 module _ (b : List ℕ) (at dim : ℕ) (X : Complex) where
-  pub chain-refused : (number : ℕ) → asked b at dim ≡ refused number at → read_chain small b at dim X ≡ refused number at
+  pub chain-refused : (number place : ℕ) → asked b at dim ≡ refused number place → read_chain small b at dim X ≡ refused number place
   unfolding read_chain
-  chain-refused number e = rw e
+  chain-refused number place e = rw e
 
-  module _ (size : ℕ) (verdict : Verdict) where
-    pub chain-positions : asked b at dim ≡ accepted (record_of_kind chain_kind b at size) → (ps : List ℕ) → ps ≡ positions_of (payload_at b at size) → rising_below (length (simplices X dim)) (at + header_bytes) 0 ps ≡ reading_of verdict ps
-        → read_chain small b at dim X ≡ reading_of verdict (record { chain = named (simplices X dim) ps; next = at + header_bytes + size })
+  module _ (size : ℕ) (read : Result Marks Refusal) where
+    pub chain-positions : asked b at dim ≡ accepted (record_of_kind chain_kind b at size) → (ps : List ℕ) → ps ≡ positions_of (payload_at b at size) → rising_below (length (simplices X dim)) (at + header_bytes) 0 ps ≡ reading_of (λ _. ps) read
+        → read_chain small b at dim X ≡ reading_of (λ _. record { chain = named (simplices X dim) ps; next = at + header_bytes + size }) read
     unfolding read_chain chosen_by
     chain-positions e ps is r =
-        rw (e, ← is, r) (reading-both verdict ps (named (simplices X dim)) (λ A. record { chain = A; next = at + header_bytes + size }))
+        rw (e, ← is, r) (reading-both read (λ _. ps) (named (simplices X dim)) (λ A. record { chain = A; next = at + header_bytes + size }))
 
-    pub chain-walk : asked b at dim ≡ accepted (record_of_kind walk_kind b at size) → (walked : List Simplex) → walked ≡ steps (payload_at b at size) → read_steps X.edges (at + header_bytes) walked ≡ reading_of verdict walked
-        → read_chain small b at dim X ≡ reading_of verdict (record { chain = walk_chain walked; next = at + header_bytes + size })
+    pub chain-walk : asked b at dim ≡ accepted (record_of_kind walk_kind b at size) → (walked : List Simplex) → walked ≡ steps (payload_at b at size) → read_steps X.edges (at + header_bytes) walked ≡ reading_of (λ _. walked) read
+        → read_chain small b at dim X ≡ reading_of (λ _. record { chain = walk_chain walked; next = at + header_bytes + size }) read
     unfolding read_chain chosen_by
     chain-walk e walked is r =
-        rw (e, ← is, r) (reading-both verdict walked walk_chain (λ A. record { chain = A; next = at + header_bytes + size }))
+        rw (e, ← is, r) (reading-both read (λ _. walked) walk_chain (λ A. record { chain = A; next = at + header_bytes + size }))
 
 -- MARKS place by place are the marks of a set.
 any-default : {A : Type 0} (l : List A) (i : ℕ) (d e : A) → i < length l → get_or l i d ≡ get_or l i e
@@ -108,35 +109,45 @@ walk-flat b at dim size e =
 
 -- THE STAGE'S OUTCOME, refused or read, over whatever complex has the simplices counted and the edges entered.
 module _ (b : List ℕ) (at dim : ℕ) (X : Complex) where
-  pub stage-refused : (number : ℕ) (marks : Marks) (next : ℕ) → asked b at dim ≡ refused number at → ChainStageRead b at dim X (record { verdict = Refused number at; marks = marks; next = next })
-  stage-refused number marks next e =
-      record {
-        set = λ s. false;
-        reading = chain-refused b at dim X number e;
-        marks = λ f. let z : ◌≡◌ {A = ℕ} 0 1 = cc in absurd (omega arith);
-      }
+  pub stage-refused : (e : Refusal) → read_chain small b at dim X ≡ refused_by e → ChainStageRead b at dim X (Err e)
+  stage-refused e is = record { set = λ s. false; reading = is; marks = λ asked f. absurd (not_read f) }
 
-  module _ (size : ℕ) (p : List ℕ) (r : ChainRead) (is : p ≡ payload_at b at size) (full : length r.on ≡ 512) where
-    pub stage-positions : {count : ℕ} → asked b at dim ≡ accepted (record_of_kind chain_kind b at size) → length (simplices X dim) ≡ count → count ≤ 512 → PositionsRead p (at + header_bytes) count r
-        → ChainStageRead b at dim X (record { verdict = r.verdict; marks = record { on = r.on }; next = at + header_bytes + size })
-    stage-positions e n few read =
-        record {
-          set = named (simplices X dim) (positions_of p);
-          reading = chain-positions b at dim X size r.verdict e (positions_of p) (ap positions_of is) (ap (λ k. rising_below k (at + header_bytes) 0 (positions_of p)) n ∙ read.verdict);
-          marks = λ fine once.
-              marked-by-place r.on (simplices X dim) (named (simplices X dim) (positions_of p)) (omega arith)
-              (λ i h. read.marks fine i ∙ sym (named-marks (simplices X dim) once (positions_of p) (ap (λ k. all_below k (positions_of p)) n ∙ read.below fine) i h));
-        }
+  -- a record with marks of the set that it names
+  stage-read : (A : SimplexSet) (m : Marks) (next : ℕ) → read_chain small b at dim X ≡ accepted (record { chain = A; next = next })
+      → (Once (simplices X dim) → Marked m.on (simplices X dim) A) → ChainStageRead b at dim X (Ok (record { marks = m; next = next }))
+  stage-read A m next is marked = record {
+    set = A;
+    reading = is;
+    marks = λ asked f. subst (λ (x : ChainStage). Once (simplices X dim) → Marked x.marks.on (simplices X dim) A) (same_read f) marked;
+  }
 
-    pub stage-walk : {edges : List Simplex} → asked b at dim ≡ accepted (record_of_kind walk_kind b at size) → X.edges ≡ edges → length edges ≤ 512 → WalkRead p (at + header_bytes) edges r
-        → ChainStageRead b at dim X (record { verdict = r.verdict; marks = record { on = r.on }; next = at + header_bytes + size })
+  module _ (size : ℕ) (p : List ℕ) (is : p ≡ payload_at b at size) where
+    pub positions-told : {count : ℕ} {r : Result Marks Refusal} → asked b at dim ≡ accepted (record_of_kind chain_kind b at size) → length (simplices X dim) ≡ count
+        → PositionsRead p (at + header_bytes) count r
+        → read_chain small b at dim X ≡ reading_of (λ _. record { chain = named (simplices X dim) (positions_of p); next = at + header_bytes + size }) r
+    positions-told {r = r} e n read =
+        chain-positions b at dim X size r e (positions_of p) (ap positions_of is) (ap (λ k. rising_below k (at + header_bytes) 0 (positions_of p)) n ∙ read.reading)
+
+    pub stage-positions : {count : ℕ} (m : Marks) → length m.on ≡ 512 → asked b at dim ≡ accepted (record_of_kind chain_kind b at size) → length (simplices X dim) ≡ count → count ≤ 512
+        → PositionsRead p (at + header_bytes) count (Ok m) → ChainStageRead b at dim X (Ok (record { marks = m; next = at + header_bytes + size }))
+    stage-positions m full e n few read =
+        stage-read (named (simplices X dim) (positions_of p)) m _ (positions-told e n read)
+        (λ once.
+        marked-by-place m.on (simplices X dim) (named (simplices X dim) (positions_of p)) (omega arith)
+        (λ i h. read.marks m refl i ∙ sym (named-marks (simplices X dim) once (positions_of p) (ap (λ k. all_below k (positions_of p)) n ∙ read.below m refl) i h)))
+
+    pub walk-told : {edges : List Simplex} {r : Result Marks Refusal} → asked b at dim ≡ accepted (record_of_kind walk_kind b at size) → X.edges ≡ edges
+        → WalkRead p (at + header_bytes) edges r
+        → read_chain small b at dim X ≡ reading_of (λ _. record { chain = walk_chain (steps p); next = at + header_bytes + size }) r
+    walk-told {r = r} e own read =
+        chain-walk b at dim X size r e (steps p) (ap steps is) (ap (λ l. read_steps l (at + header_bytes) (steps p)) own ∙ read.reading)
+
+    pub stage-walk : {edges : List Simplex} (m : Marks) → length m.on ≡ 512 → asked b at dim ≡ accepted (record_of_kind walk_kind b at size) → X.edges ≡ edges → length edges ≤ 512
+        → WalkRead p (at + header_bytes) edges (Ok m) → ChainStageRead b at dim X (Ok (record { marks = m; next = at + header_bytes + size }))
     unfolding simplices
-    stage-walk {edges} e own few read =
+    stage-walk {edges} m full e own few read =
         let flat : simplices X dim ≡ edges = ap (simplices X) (walk-flat b at dim size e) ∙ own in
-        record {
-          set = walk_chain (steps p);
-          reading = chain-walk b at dim X size r.verdict e (steps p) (ap steps is) (ap (λ l. read_steps l (at + header_bytes) (steps p)) own ∙ read.verdict);
-          marks = λ fine once.
-              subst (λ l. Marked r.on l (walk_chain (steps p))) (sym flat)
-              (marked-by-place r.on edges (walk_chain (steps p)) (omega arith) (read.marks fine (subst Once flat once)));
-        }
+        stage-read (walk_chain (steps p)) m _ (walk-told e own read)
+        (λ once.
+        subst (λ l. Marked m.on l (walk_chain (steps p))) (sym flat)
+        (marked-by-place m.on edges (walk_chain (steps p)) (omega arith) (read.marks m refl (subst Once flat once))))

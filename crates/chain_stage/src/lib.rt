@@ -6,50 +6,43 @@ ghost use Rattle.format.specs.Numbers.{small};
 ghost use Rattle.format.specs.Simplex.{simplices};
 ghost use Rattle.format.specs.Simplex as format;
 ghost use Rattle.format.specs.Reading.{record_at, may_ask, chain_fits};
+ghost use Rattle.refusals.specs.Readings.{reading_of};
 ghost use Rattle.lookup.specs.Indexed.{Proper, Indexed};
 ghost use Rattle.lookup.specs.Numbered.{simplices_in};
 ghost use Rattle.chain_stage.specs.Meaning.{chain_opened, ChainStageRead};
 
-use chosen::ChainRead;
-use lists::{Marks, Verdict};
+use chosen::ChainRecord;
+use lists::Marks;
 use records::Header;
-
-// The record behind the lists: a chain record or a walk with the length of its payload, or the refusal's number.
-#[derive(Clone, Copy)]
-pub enum ChainOpened {
-    Positions(usize),
-    Walk(usize),
-    Refused(u16),
-}
+use refusals::{Reason, Refusal};
 
 // Opens the record behind the lists: 2 cut, 3 kind (a walk only where A has dimension 1), 4 shape.
-pub fn open_chain(job: &[u8], at: usize, dim: usize) -> ChainOpened
-    ensures { chain_opened job.now at result ≡ record_at (may_ask dim) (chain_fits small) job.now at }
+pub fn open_chain(job: &[u8], at: usize, dim: usize) -> Result<ChainRecord, Refusal>
+    ensures { reading_of (chain_opened job.now at) result ≡ record_at (may_ask dim) (chain_fits small) job.now at }
 {
-    let header = records::header_at(job, at);
-    match header {
-        Header::Ended => ChainOpened::Refused(Verdict::KIND),
-        Header::Broken => ChainOpened::Refused(Verdict::CUT),
+    match records::header_at(job, at) {
+        Header::Ended => Err(Reason::Kind.at(at)),
+        Header::Broken => Err(Reason::Cut.at(at)),
         Header::Whole(kind, size) => {
-            if kind == ChainRead::CHAIN {
+            if kind == ChainRecord::CHAIN {
                 if size % 2 != 0 {
-                    return ChainOpened::Refused(Verdict::SHAPE);
+                    return Err(Reason::Shape.at(at));
                 }
-                if ChainRead::BYTES < size {
-                    return ChainOpened::Refused(Verdict::SHAPE);
+                if ChainRecord::BYTES < size {
+                    return Err(Reason::Shape.at(at));
                 }
-                return ChainOpened::Positions(size);
+                return Ok(ChainRecord::Positions(size));
             }
-            if kind != ChainRead::WALK {
-                return ChainOpened::Refused(Verdict::KIND);
+            if kind != ChainRecord::WALK {
+                return Err(Reason::Kind.at(at));
             }
             if dim != 1 {
-                return ChainOpened::Refused(Verdict::KIND);
+                return Err(Reason::Kind.at(at));
             }
-            if ChainRead::BYTES < size {
-                return ChainOpened::Refused(Verdict::SHAPE);
+            if ChainRecord::BYTES < size {
+                return Err(Reason::Shape.at(at));
             }
-            ChainOpened::Walk(size)
+            Ok(ChainRecord::Walk(size))
         }
     }
 }
@@ -57,7 +50,6 @@ pub fn open_chain(job: &[u8], at: usize, dim: usize) -> ChainOpened
 // A's marks by rank, and the offset of the record behind its own.
 #[derive(Clone, Copy)]
 pub struct ChainStage {
-    pub verdict: Verdict,
     pub marks: Marks,
     pub next: usize,
 }
@@ -73,43 +65,31 @@ pub fn read_chain(
     keys: &[u64],
     first: &[u16],
     next: &[u16],
-) -> ChainStage
+) -> Result<ChainStage, Refusal>
     requires job_len_bound { length job.now ≤ 6690 }
     requires count_bound { (count ≤ 512) × (edges ≤ 512) }
     requires proper { Proper 2 (simplices_in 2 keys.now edges) }
     requires indexed { Indexed (simplices_in 2 keys.now edges) keys.now first.now next.now edges }
     ensures { (X : format.Complex) → X.edges ≡ simplices_in 2 keys.now edges → length (simplices X dim) ≡ count → ChainStageRead job.now at dim X result }
 {
-    let opened = open_chain(job, at, dim);
-    match opened {
-        ChainOpened::Refused(number) => ChainStage {
-            verdict: Verdict::Refused(number, at),
-            marks: Marks::none(),
-            next: at,
-        },
-        ChainOpened::Positions(size) => {
+    match open_chain(job, at, dim)? {
+        ChainRecord::Positions(size) => {
             let start = at + Header::BYTES;
             let p = records::payload(job, at, size);
-            let read = chosen::read_positions(p, start, count);
-            let verdict = read.verdict;
-            let on = read.on;
-            ChainStage {
-                verdict,
-                marks: Marks { on },
+            let marks = chosen::read_positions(p, start, count)?;
+            Ok(ChainStage {
+                marks,
                 next: start + size,
-            }
+            })
         }
-        ChainOpened::Walk(size) => {
+        ChainRecord::Walk(size) => {
             let start = at + Header::BYTES;
             let p = records::payload(job, at, size);
-            let read = chosen::read_walk(p, start, edges, keys, first, next);
-            let verdict = read.verdict;
-            let on = read.on;
-            ChainStage {
-                verdict,
-                marks: Marks { on },
+            let marks = chosen::read_walk(p, start, edges, keys, first, next)?;
+            Ok(ChainStage {
+                marks,
                 next: start + size,
-            }
+            })
         }
     }
 }

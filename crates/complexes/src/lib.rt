@@ -24,6 +24,11 @@ pub struct Job {
     pub marks: Marks,
 }
 
+impl Job {
+    // "6,690 bytes a job"
+    pub const BYTES: usize = 6690;
+}
+
 // How many simplices a list holds.
 pub fn count_of(list: SimplexList) -> usize
     ensures { (result ≡ length (simplices_of list)) × (result ≤ 512) }

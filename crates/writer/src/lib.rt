@@ -8,7 +8,7 @@ ghost use Rattle.lists.specs.Meaning.{vertices_of, simplices_of};
 ghost use Rattle.writer.specs.Splice.{splice};
 ghost use Rattle.writer.specs.Meaning.{simplex_bytes, list_bytes, header_of_size, mark_piece, mark_bytes, Put, head_record, job_bytes};
 
-use chosen::ChainRead;
+use chosen::ChainRecord;
 use complexes::Job;
 use heads::Head;
 use lists::{Marks, Simplex, SimplexList};
@@ -108,7 +108,7 @@ pub fn put_chain_record(out: &mut [u8], at: usize, marks: Marks, n: usize) -> us
 {
     let start = at + Header::BYTES;
     let next = put_marks(out, start, marks, n);
-    put_header(out, at, ChainRead::CHAIN as usize, next - start);
+    put_header(out, at, ChainRecord::CHAIN as usize, next - start);
     next
 }
 
