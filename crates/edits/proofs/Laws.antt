@@ -18,7 +18,8 @@ use Rattle.lists.specs.Items.{length-simplices, simplex-at}
 use Rattle.lists.specs.Moved.{MovedList, MovedMarks}
 use Rattle.lists.specs.declared.SimplexList.{SimplexList}
 use Rattle.lists.specs.declared.Marks.{Marks}
-use Rattle.lists.specs.declared.Verdict.TheVariants.{Fine, Refused}
+use Rattle.std.proofs.Common.{Ok, Err}
+use Rattle.refusals.specs.declared.Reason.TheVariants.{Stale, Target}
 use Rattle.complexes.specs.Meaning.{complex_of, list_of, Marked}
 use Rattle.complexes.specs.declared.Complex.{Complex}
 use Rattle.edits.specs.Meaning.{Views, Chosen, Judged, MarksStay}
@@ -55,21 +56,21 @@ module _ {kind : ℕ} {edges triangles tetrahedra : View} where
 
 -- THE JUDGEMENT of an edit. `count` is the list's length, and `test` says whether the simplex stands at the seen position.
 module _ (edit : Edit) (view : View) {count : ℕ} (counted : count ≡ min view.count 512) where
-  pub nothing-there : {at : ℕ} → count ≤ edit.seen → Judged at edit view (Refused 10 at)
+  pub nothing-there : {at : ℕ} → count ≤ edit.seen → Judged at edit view (Err (record { reason = Stale; place = at }))
   nothing-there {at = at} h = record { reading = λ l v. list-past at edit.seen edit.new (vertices_of edit.simplex) l (omega (arith, v.counts)) }
 
   module _ (within : edit.seen < count) {test : Bool} (tested : test ≡ same (vertices_of edit.simplex) (vertices_of view.there)) where
     stood : (l : List format.Simplex) → Views l edit.seen view → (x : Bool) → test ≡ x → same (vertices_of edit.simplex) (get_or l edit.seen []) ≡ x
     stood l v x e = ap (same (vertices_of edit.simplex)) (v.stands (omega (arith, v.counts))) ∙ sym tested ∙ e
 
-    pub another-there : {at : ℕ} → test ≡ false → Judged at edit view (Refused 10 at)
+    pub another-there : {at : ℕ} → test ≡ false → Judged at edit view (Err (record { reason = Stale; place = at }))
     another-there {at = at} e = record { reading = λ l v. list-other at edit.seen edit.new (vertices_of edit.simplex) l (stood l v false e) }
 
-    pub no_target : {at : ℕ} → test ≡ true → count ≤ edit.new → Judged at edit view (Refused 11 at)
+    pub no_target : {at : ℕ} → test ≡ true → count ≤ edit.new → Judged at edit view (Err (record { reason = Target; place = at }))
     no_target {at = at} e h =
         record { reading = λ l v. list-target at edit.seen edit.new (vertices_of edit.simplex) l (omega (arith, v.counts)) (stood l v true e) (omega (arith, v.counts)) }
 
-    pub can-be-done : {at : ℕ} → test ≡ true → edit.new < count → Judged at edit view Fine
+    pub can-be-done : {at : ℕ} → test ≡ true → edit.new < count → Judged at edit view (Ok tt)
     can-be-done {at = at} e h =
         record { reading = λ l v. list-moved at edit.seen edit.new (vertices_of edit.simplex) l (omega (arith, v.counts)) (stood l v true e) (omega (arith, v.counts)) }
 

@@ -1,15 +1,15 @@
 -- The outcome of edits in the words of crate `format`; and that marks stay those of the same set, for "Edits move ranks,
 -- not chains".
-use Rattle.std.specs.Prelude.{ℕ, pred, ◌≤◌, ◌<◌, min, ◌≡◌, List, [], length, get_or}
+use Rattle.std.specs.Prelude.{ℕ, pred, ◌≤◌, ◌<◌, min, ◌≡◌, List, [], length, get_or, Result}
+use Rattle.std.proofs.Common.{Ok}
 use Rattle.format.specs.Simplex.{Simplex, SimplexSet}
 use Rattle.format.specs.Simplex as format
 use Rattle.format.specs.Reading.{Reading, accepted, ◌and_then◌, moved, list_kind_of, seen_of, new_of, simplex_of, list_of_kind, with_list, read_edits}
 use Rattle.format.specs.EditLaws.{edited_list}
 use Rattle.lists.specs.Meaning.{vertices_of}
-use Rattle.lists.specs.Verdicts.{reading_of}
+use Rattle.refusals.specs.Readings.{reading_of}
+use Rattle.refusals.specs.declared.Refusal.{Refusal}
 use Rattle.lists.specs.declared.Marks.{Marks}
-use Rattle.lists.specs.declared.Verdict.{Verdict}
-use Rattle.lists.specs.declared.Verdict.TheVariants.{Fine}
 use Rattle.complexes.specs.Meaning.{complex_of, list_of, Marked}
 use Rattle.complexes.specs.declared.Complex.{Complex}
 use Rattle.edits.specs.declared.Edit.{Edit}
@@ -33,11 +33,11 @@ in_complex at edit X = in_list at edit (list_of_kind edit.kind X) and_then λ l.
 
 -- One edit record, whatever the complex: what is left to read is this edit, if it is not refused, and then what stands
 -- from the next record on, where one record fewer may stand.
-pub record EditTaken (b : List ℕ) (left at : ℕ) (r : EditRead) : Type 0 where
-  pub reading : (X : format.Complex) → read_edits left b at X ≡ (reading_of r.verdict r.edit and_then λ edit. in_complex at edit X) and_then read_edits (pred left) b r.next
-  pub allowed : r.verdict ≡ Fine → 1 ≤ left
-  pub least : r.verdict ≡ Fine → 2 ≤ r.edit.kind
-  pub most : r.verdict ≡ Fine → r.edit.kind ≤ 4
+pub record EditTaken (b : List ℕ) (left at : ℕ) (r : Result EditRead Refusal) : Type 0 where
+  pub reading : (X : format.Complex) → read_edits left b at X ≡ (reading_of (λ read. read) r and_then λ read. in_complex at read.edit X and_then read_edits (pred left) b read.next)
+  pub allowed : (read : EditRead) → r ≡ Ok read → 1 ≤ left
+  pub least : (read : EditRead) → r ≡ Ok read → 2 ≤ read.edit.kind
+  pub most : (read : EditRead) → r ≡ Ok read → read.edit.kind ≤ 4
 
 -- a view of a list at a seen position
 pub record Views (l : List Simplex) (seen : ℕ) (view : View) : Type 0 where
@@ -49,14 +49,14 @@ pub record Chosen (kind : ℕ) (edges triangles tetrahedra r : View) : Type 0 wh
   pub views : (X : format.Complex) (seen : ℕ) → 2 ≤ kind → kind ≤ 4 → Views X.edges seen edges → Views X.triangles seen triangles → Views X.tetrahedra seen tetrahedra → Views (list_of_kind kind X) seen r
 
 -- an edit's judgement by a view of its list
-pub record Judged (at : ℕ) (edit : Edit) (view : View) (r : Verdict) : Type 0 where
-  pub reading : (l : List Simplex) → Views l edit.seen view → in_list at edit l ≡ reading_of r (moved edit.seen edit.new l)
+pub record Judged (at : ℕ) (edit : Edit) (view : View) (r : Result Unit Refusal) : Type 0 where
+  pub reading : (l : List Simplex) → Views l edit.seen view → in_list at edit l ≡ reading_of (λ _. moved edit.seen edit.new l) r
 
 -- Marks of the simplices of dimension `dim` before and after: they hold the same set, whichever it is.
 abbrev pub MarksStay : (dim : ℕ) (X : Complex) (before : Marks) (Y : Complex) (after : Marks) → Type 0
 MarksStay dim X before Y after = (A : SimplexSet) → Marked before.on (list_of X dim) A → Marked after.on (list_of Y dim) A
 
 -- all edits of a file
-pub record EditsTaken (b : List ℕ) (at dim : ℕ) (X : Complex) (marks : Marks) (r : EditsRead) : Type 0 where
-  pub reading : read_edits 64 b at (complex_of X) ≡ reading_of r.verdict (complex_of r.complex)
-  pub stay : r.verdict ≡ Fine → MarksStay dim X marks r.complex r.marks
+pub record EditsTaken (b : List ℕ) (at dim : ℕ) (X : Complex) (marks : Marks) (r : Result EditsRead Refusal) : Type 0 where
+  pub reading : read_edits 64 b at (complex_of X) ≡ reading_of (λ after. complex_of after.complex) r
+  pub stay : (after : EditsRead) → r ≡ Ok after → MarksStay dim X marks after.complex after.marks

@@ -4,13 +4,12 @@
 
 ghost use Rattle.std.specs.Prelude.{◌≡◌, true, ◌<◌, length};
 ghost use Rattle.format.specs.Reading.{edit_fits};
-ghost use Rattle.lists.specs.declared.Verdict.TheVariants.{Refused};
 ghost use Rattle.edits.specs.Meaning.{Named, Judged, Chosen, EditTaken, EditsTaken};
 
 use complexes::Complex;
-use lists::{Marks, Simplex, SimplexList, Verdict};
+use lists::{Marks, Simplex, SimplexList};
 use records::Header;
-use stages::Opened;
+use refusals::{Reason, Refusal};
 
 // An edit: the kind of its list, the seen and the new position there, and the simplex that it moves.
 #[derive(Clone, Copy)]
@@ -19,18 +18,6 @@ pub struct Edit {
     pub seen: usize,
     pub new: usize,
     pub simplex: Simplex,
-}
-
-impl Edit {
-    // What stands where no edit was read.
-    fn none() -> Self {
-        Self {
-            kind: 0,
-            seen: 0,
-            new: 0,
-            simplex: Simplex::none(),
-        }
-    }
 }
 
 // Whether an edit's payload has an allowed list kind, and the length that it asks for.
@@ -64,51 +51,31 @@ fn edit_of(p: &[u8]) -> Edit
     }
 }
 
-// What an edit record comes to before its list is looked at: a verdict, and where nothing is refused the edit, and the
-// offset of the record behind it.
+// An edit record that was read: the edit, which no list has judged yet, and the offset of the record behind it.
 #[derive(Clone, Copy)]
 pub struct EditRead {
-    pub verdict: Verdict,
     pub edit: Edit,
     pub next: usize,
 }
 
-impl EditRead {
-    fn refused(number: u16, at: usize) -> Self
-        ensures { result.verdict ≡ Refused number at }
-    {
-        Self {
-            verdict: Verdict::Refused(number, at),
-            edit: Edit::none(),
-            next: at,
-        }
-    }
-}
-
 // Reads the edit record at a place of the file, where `left` more may stand.
-fn read_edit(job: &[u8], at: usize, left: usize) -> EditRead
+fn read_edit(job: &[u8], at: usize, left: usize) -> Result<EditRead, Refusal>
     requires { at < length job.now }
     ensures { EditTaken job.now left at result }
 {
-    let opened = stages::open(job, at, EditsRead::KIND);
-    match opened {
-        Opened::Refused(number) => EditRead::refused(number, at),
-        Opened::Size(size) => {
-            if left == 0 {
-                return EditRead::refused(Verdict::KIND, at);
-            }
-            let p = records::payload(job, at, size);
-            if !edit_fits(p) {
-                return EditRead::refused(Verdict::SHAPE, at);
-            }
-            let edit = edit_of(p);
-            EditRead {
-                verdict: Verdict::Fine,
-                edit,
-                next: at + Header::BYTES + size,
-            }
-        }
+    let size = stages::open(job, at, EditsRead::KIND)?;
+    if left == 0 {
+        return Err(Reason::Kind.at(at));
     }
+    let p = records::payload(job, at, size);
+    if !edit_fits(p) {
+        return Err(Reason::Shape.at(at));
+    }
+    let edit = edit_of(p);
+    Ok(EditRead {
+        edit,
+        next: at + Header::BYTES + size,
+    })
 }
 
 // What an edit is judged by in a list: its count, and what stands at the seen position, if anything does.
@@ -133,26 +100,25 @@ fn view_of(kind: usize, edges: View, triangles: View, tetrahedra: View) -> View
 
 // Judges the edit of the record at a place: 10 where its simplex does not stand at the seen position, then 11 where there
 // is no such new position.
-fn judge(at: usize, edit: Edit, view: View) -> Verdict
+fn judge(at: usize, edit: Edit, view: View) -> Result<(), Refusal>
     ensures { Judged at edit view result }
 {
     let count = lists::least(view.count, SimplexList::LIMIT);
     if count <= edit.seen {
-        return Verdict::Refused(Verdict::STALE, at);
+        return Err(Reason::Stale.at(at));
     }
     if !lists::same(edit.simplex, view.there) {
-        return Verdict::Refused(Verdict::STALE, at);
+        return Err(Reason::Stale.at(at));
     }
     if count <= edit.new {
-        return Verdict::Refused(Verdict::TARGET, at);
+        return Err(Reason::Target.at(at));
     }
-    Verdict::Fine
+    Ok(())
 }
 
-// A verdict on a job's edits, and the complex and the marks after them all, which count only where nothing was refused.
+// The complex and the marks after all edits of a job.
 #[derive(Clone, Copy)]
 pub struct EditsRead {
-    pub verdict: Verdict,
     pub complex: Complex,
     pub marks: Marks,
 }
@@ -174,7 +140,7 @@ pub fn read_edits(
     complex: Complex,
     mut marks: Marks,
     dim: usize,
-) -> EditsRead
+) -> Result<EditsRead, Refusal>
     ensures { EditsTaken job.now at dim complex marks result }
 {
     let v = complex.v;
@@ -183,15 +149,7 @@ pub fn read_edits(
     let mut tetrahedra = complex.tetrahedra;
     let mut left = EditsRead::MOST;
     while at < job.len() {
-        let read = read_edit(job, at, left);
-        let verdict = read.verdict;
-        if let Verdict::Refused(number, place) = verdict {
-            return EditsRead {
-                verdict: Verdict::Refused(number, place),
-                complex,
-                marks,
-            };
-        }
+        let read = read_edit(job, at, left)?;
         let edit = read.edit;
         let kind = edit.kind;
         let seen = edit.seen;
@@ -216,14 +174,7 @@ pub fn read_edits(
                 there: tetrahedron,
             },
         );
-        let judged = judge(at, edit, view);
-        if let Verdict::Refused(number, place) = judged {
-            return EditsRead {
-                verdict: Verdict::Refused(number, place),
-                complex,
-                marks,
-            };
-        }
+        judge(at, edit, view)?;
         if kind == SimplexList::EDGES as usize {
             edges = edges.moved(seen, new);
         } else if kind == SimplexList::TRIANGLES as usize {
@@ -237,8 +188,7 @@ pub fn read_edits(
             marks = marks.moved(seen, new);
         }
     }
-    EditsRead {
-        verdict: Verdict::Fine,
+    Ok(EditsRead {
         complex: Complex {
             v,
             edges,
@@ -246,5 +196,5 @@ pub fn read_edits(
             tetrahedra,
         },
         marks,
-    }
+    })
 }

@@ -1,6 +1,7 @@
 -- `edits::read_edits` meets its contract: the loop keeps `Taking`, and each return is one of its ends.
 use Prim.Native.Nat.{◌-◌}
-use mathlib.Core.Path.{◌≡◌}
+use mathlib.Core.Path.{◌≡◌, refl, subst}
+use Rattle.refusals.specs.Readings.{handed_up}
 use native.Mathlib.Omega.{arith}
 use lib.ListN.{length}
 use Rattle.format.specs.Reading.{moved, list_of_kind}
@@ -10,11 +11,11 @@ use Rattle.lists.specs.declared.Marks.{Marks}
 use Rattle.lists.specs.declared.SimplexList.{SimplexList}
 use Rattle.complexes.specs.Meaning.{complex_of}
 use Rattle.complexes.specs.declared.Complex.{Complex}
-use Rattle.edits.specs.Meaning.{MarksStay}
+use Rattle.edits.specs.Meaning.{EditTaken, MarksStay}
 use Rattle.edits.proofs.Laws.{viewed, Replaced, edges-moved, triangles-moved, tetrahedra-moved, sub-one, marks-go-along, marks-stand}
 use Rattle.edits.proofs.Taking.{Full, Taking, Turn, taking-starts, taking-ends, record-refuses, judge-refuses, moves-within, taking-goes-on}
 use Rattle.std.proofs.Common.{rules}
-use Rattle.edits.proofs.read_edits.Goals.{then-kind, else-kind+then-kind-2, else-kind+else-kind-2, After-judge-judged, In_default-judged, Joined-kind, Start}
+use Rattle.edits.proofs.read_edits.Goals.{then-kind, else-kind+then-kind-2, else-kind+else-kind-2, After-judge, In_ok-judge, Joined-kind, Start}
 use Rattle.edits.proofs.read_edits.Goals as goal
 
 -- the arrays have all their places
@@ -32,10 +33,10 @@ loop-at-init c =
     let a = c.args in
     taking-starts a.job.now a.at a.dim a.complex a.marks (full (goal.at.loop-at-init c).Start)
 
-pub returns-in-Refused : goal.returns-in-Refused
-returns-in-Refused c =
-    let a = c.args in
-    record-refuses c.loop-at.invariant c.read_edit-read.result c.read_edit-read.ensures _ _ a.complex c.loop-at.marks c.in-Refused.is
+pub returns-in_err-read : goal.returns-in_err-read
+returns-in_err-read c =
+    rw (handed_up c.from_residual.result c.from_residual.ensures.1)
+    (record-refuses c.loop-at.invariant c.read_edit.ensures _ c.in_err-read.was)
 
 -- the complex as the loop has it
 abbrev present : Complex → SimplexList → SimplexList → SimplexList → Complex
@@ -48,32 +49,33 @@ present read edges triangles tetrahedra =
     }
 
 -- what the turn has come to with the judgement: the view is of the list that the edit names
-turn : (c : After-judge-judged)
+turn : (c : After-judge)
     →
-    Turn c.args.job.now c.loop-at.left c.loop-at.at (present c.args.complex c.loop-at.edges c.loop-at.triangles c.loop-at.tetrahedra) c.read_edit-read.result c.judge-judged.result
+    Turn c.args.job.now c.loop-at.left c.loop-at.at (present c.args.complex c.loop-at.edges c.loop-at.triangles c.loop-at.tetrahedra) c.in_ok-read.read c.judge.result
 turn c =
     let full = c.loop-at.invariant.full in
-    let one = c.read_edit-read.ensures in
-    let fine = c.in_default.is in
+    let one = c.read_edit.ensures in
+    let fine = c.in_ok-read.was in
     let rank = c.least-rank.ensures in
     record {
-      one = one;
-      fine = fine;
+      one = subst (EditTaken c.args.job.now c.loop-at.left c.loop-at.at) fine one;
       view = c.view_of-view.result;
-      views = c.view_of-view.ensures.views (complex_of (present c.args.complex c.loop-at.edges c.loop-at.triangles c.loop-at.tetrahedra)) c.read_edit-read.result.edit.seen (one.least fine) (one.most fine) (viewed _ _ _ full.edges rank) (viewed _ _ _ full.triangles rank) (viewed _ _ _ full.tetrahedra rank);
-      judged = c.judge-judged.ensures;
+      views = c.view_of-view.ensures.views (complex_of (present c.args.complex c.loop-at.edges c.loop-at.triangles c.loop-at.tetrahedra)) c.in_ok-read.read.edit.seen (one.least _ fine) (one.most _ fine) (viewed _ _ _ full.edges rank) (viewed _ _ _ full.triangles rank) (viewed _ _ _ full.tetrahedra rank);
+      judged = c.judge.ensures;
     }
 
-pub returns-in-Refused-judged : goal.returns-in-Refused-judged
-returns-in-Refused-judged c =
-    judge-refuses c.loop-at.invariant (turn (goal.at.returns-in-Refused-judged c).After-judge-judged) _ _ c.args.complex c.loop-at.marks c.in-Refused-judged.is
+pub returns-in_err-judge : goal.returns-in_err-judge
+returns-in_err-judge c =
+    let up = c.from_residual-in_err-judge in
+    rw (handed_up up.result up.ensures.1)
+    (judge-refuses c.loop-at.invariant (turn (goal.at.returns-in_err-judge c).After-judge) _ c.in_err-judge.was)
 
 -- both positions are in the list
-within : (c : In_default-judged)
+within : (c : In_ok-judge)
     →
-    let list = list_of_kind c.read_edit-read.result.edit.kind (complex_of (present c.args.complex c.loop-at.edges c.loop-at.triangles c.loop-at.tetrahedra)) in
-    MovedWithin c.read_edit-read.result.edit.seen c.read_edit-read.result.edit.new list (moved c.read_edit-read.result.edit.seen c.read_edit-read.result.edit.new list)
-within c = moves-within (turn (record { before = c.before.before; type_inv = record { job = c.type_inv.job } })) c.in_default-judged.is
+    let list = list_of_kind c.in_ok-read.read.edit.kind (complex_of (present c.args.complex c.loop-at.edges c.loop-at.triangles c.loop-at.tetrahedra)) in
+    MovedWithin c.in_ok-read.read.edit.seen c.in_ok-read.read.edit.new list (moved c.in_ok-read.read.edit.seen c.in_ok-read.read.edit.new list)
+within c = moves-within (turn (record { before = c.before.before.before; type_inv = record { job = c.type_inv.job } })) c.in_ok-judge.was
 
 -- the complex with the list moved
 abbrev changed : Joined-kind → Complex
@@ -82,14 +84,14 @@ changed c =
 
 replaced : (c : Joined-kind)
     →
-    Replaced c.read_edit-read.result.edit.kind c.read_edit-read.result.edit.seen c.read_edit-read.result.edit.new (present c.args.complex c.loop-at.edges c.loop-at.triangles c.loop-at.tetrahedra) (changed c)
+    Replaced c.in_ok-read.read.edit.kind c.in_ok-read.read.edit.seen c.in_ok-read.read.edit.new (present c.args.complex c.loop-at.edges c.loop-at.triangles c.loop-at.tetrahedra) (changed c)
 replaced c =
-    let j = turn (record { before = c.before.before.before; type_inv = record { job = c.type_inv.job } }) in
+    let j = turn (record { before = c.before.before.before.before; type_inv = record { job = c.type_inv.job } }) in
     let below = (within (record { before = c.before.before; type_inv = record { job = c.type_inv.job } })).new_below in
     elim c.if-kind.branch [
       | then-kind w ↦ rw (w.edges-is, w.triangles-is, w.tetrahedra-is) (edges-moved (present c.args.complex c.loop-at.edges c.loop-at.triangles c.loop-at.tetrahedra) w.moved-edges.result below w.if-kind.true w.moved-edges.ensures)
       | else-kind+then-kind-2 w ↦ rw (w.edges-is, w.triangles-is, w.tetrahedra-is) (triangles-moved (present c.args.complex c.loop-at.edges c.loop-at.triangles c.loop-at.tetrahedra) w.moved-triangles.result below w.if-kind-2.true w.moved-triangles.ensures)
-      | else-kind+else-kind-2 w ↦ rw (w.edges-is, w.triangles-is, w.tetrahedra-is) (tetrahedra-moved (present c.args.complex c.loop-at.edges c.loop-at.triangles c.loop-at.tetrahedra) w.moved-tetrahedra.result below (omega (arith, w.if-kind.false, w.if-kind-2.false, j.one.least j.fine, j.one.most j.fine)) w.moved-tetrahedra.ensures)
+      | else-kind+else-kind-2 w ↦ rw (w.edges-is, w.triangles-is, w.tetrahedra-is) (tetrahedra-moved (present c.args.complex c.loop-at.edges c.loop-at.triangles c.loop-at.tetrahedra) w.moved-tetrahedra.result below (omega (arith, w.if-kind.false, w.if-kind-2.false, j.one.least _ refl, j.one.most _ refl)) w.moved-tetrahedra.ensures)
     ]
 
 full-after : (c : Joined-kind)
@@ -109,30 +111,30 @@ goes_on : (c : Joined-kind) (later : Marks)
     let a = c.args in
     MarksStay a.dim (present c.args.complex c.loop-at.edges c.loop-at.triangles c.loop-at.tetrahedra) c.loop-at.marks (changed c) later
     → length later.on ≡ 512
-    → Taking a.job.now a.at a.dim a.complex a.marks c.read_edit-read.result.next (changed c) later (c.loop-at.left - 1)
+    → Taking a.job.now a.at a.dim a.complex a.marks c.in_ok-read.read.next (changed c) later (c.loop-at.left - 1)
 goes_on c later stays all =
     let full = full-after c in
-    taking-goes-on c.loop-at.invariant (turn (record { before = c.before.before.before; type_inv = record { job = c.type_inv.job } })) c.in_default-judged.is (changed c) (replaced c) later stays
+    taking-goes-on c.loop-at.invariant (turn (record { before = c.before.before.before.before; type_inv = record { job = c.type_inv.job } })) c.in_ok-judge.was (changed c) (replaced c) later stays
     (record { edges = full.edges; triangles = full.triangles; tetrahedra = full.tetrahedra; all_marks = all }) _ (sub-one _)
 
 pub overflow_sub-left : goal.overflow_sub-left
-overflow_sub-left c = let j = turn (goal.at.overflow_sub-left c).After-judge-judged in j.one.allowed j.fine
+overflow_sub-left c = let j = turn (goal.at.overflow_sub-left c).After-judge in j.one.allowed _ refl
 
 pub overflow_sub-kind : goal.overflow_sub-kind
-overflow_sub-kind c = let j = turn (goal.at.overflow_sub-kind c).After-judge-judged in omega (arith, j.one.least j.fine)
+overflow_sub-kind c = let j = turn (goal.at.overflow_sub-kind c).After-judge in omega (arith, j.one.least _ refl)
 
 pub loop-at-smaller-then-kind-dim : goal.loop-at-smaller-then-kind-dim
-loop-at-smaller-then-kind-dim c = let j = turn (goal.at.loop-at-smaller-then-kind-dim c).After-judge-judged in omega (arith, j.one.allowed j.fine)
+loop-at-smaller-then-kind-dim c = let j = turn (goal.at.loop-at-smaller-then-kind-dim c).After-judge in omega (arith, j.one.allowed _ refl)
 
 pub loop-at-preserved-then-kind-dim : goal.loop-at-preserved-then-kind-dim
 loop-at-preserved-then-kind-dim c =
-    let j = turn (goal.at.loop-at-preserved-then-kind-dim c).After-judge-judged in
+    let j = turn (goal.at.loop-at-preserved-then-kind-dim c).After-judge in
     goes_on (goal.at.loop-at-preserved-then-kind-dim c).Joined-kind c.moved-marks.result
-    (marks-go-along (replaced (goal.at.loop-at-preserved-then-kind-dim c).Joined-kind) (j.one.least j.fine) (j.one.most j.fine) (within (goal.at.loop-at-preserved-then-kind-dim c).In_default-judged) c.if-kind-dim.true c.loop-at.invariant.full.all_marks c.moved-marks.ensures)
+    (marks-go-along (replaced (goal.at.loop-at-preserved-then-kind-dim c).Joined-kind) (j.one.least _ refl) (j.one.most _ refl) (within (goal.at.loop-at-preserved-then-kind-dim c).In_ok-judge) c.if-kind-dim.true c.loop-at.invariant.full.all_marks c.moved-marks.ensures)
     (search (rules, c.moved-marks.type_inv))
 
 pub loop-at-smaller : goal.loop-at-smaller
-loop-at-smaller c = let j = turn (goal.at.loop-at-smaller c).After-judge-judged in omega (arith, j.one.allowed j.fine)
+loop-at-smaller c = let j = turn (goal.at.loop-at-smaller c).After-judge in omega (arith, j.one.allowed _ refl)
 
 pub loop-at-preserved : goal.loop-at-preserved
 loop-at-preserved c =
