@@ -1,12 +1,13 @@
 -- The complex that lent arrays hold: edges, triangles and tetrahedra as numbers by rank, and the sides of the latter two.
-use Rattle.std.specs.Prelude.{ℕ, ◌≤◌, ◌≡◌, List, length}
+use Rattle.std.specs.Prelude.{ℕ, ◌≤◌, ◌≡◌, List, length, Result}
+use Rattle.std.proofs.Common.{Ok}
 use Rattle.format.specs.Numbers.{small}
 use Rattle.format.specs.Simplex.{Complex, SimplexSet, simplices}
 use Rattle.format.specs.Reading.{read_edits}
 use Rattle.format.specs.Sound.{SoundComplex}
-use Rattle.lists.specs.Verdicts.{reading_of}
+use Rattle.refusals.specs.Readings.{reading_of}
+use Rattle.refusals.specs.declared.Refusal.{Refusal}
 use Rattle.lists.specs.declared.Marks.{Marks}
-use Rattle.lists.specs.declared.Verdict.TheVariants.{Fine}
 use Rattle.lookup.specs.Indexed.{Keyed}
 use Rattle.lookup.specs.Numbered.{simplices_in}
 use Rattle.lookup.specs.Sides.{Sided}
@@ -61,8 +62,8 @@ pub record HoldsNow (X : Complex) (c : Counts) (e_keys t_keys s_keys t_sides s_s
 
 -- What the edits of a file leave of the complex X and the marks of its simplices of dimension `dim`: the definition's
 -- reading, and where nothing was refused the arrays hold the complex after all edits, and the marks mark the same set.
-pub record EditsHeld (b : List ℕ) (at dim v : ℕ) (X : Complex) (marks : Marks) (e_keys t_keys s_keys t_sides s_sides : List ℕ) (r : Edited) : Type 0 where
-  pub reading : read_edits 64 b at X ≡ reading_of r.verdict (complex_in v r.counts e_keys t_keys s_keys)
-  pub held : r.verdict ≡ Fine → Held v r.counts e_keys t_keys s_keys t_sides s_sides
-  pub stay : r.verdict ≡ Fine → (A : SimplexSet) → Marked marks.on (simplices X dim) A
-      → Marked r.marks.on (simplices (complex_in v r.counts e_keys t_keys s_keys) dim) A
+pub record EditsHeld (b : List ℕ) (at dim v : ℕ) (X : Complex) (marks : Marks) (e_keys t_keys s_keys t_sides s_sides : List ℕ) (r : Result Edited Refusal) : Type 0 where
+  pub reading : read_edits 64 b at X ≡ reading_of (λ after. complex_in v after.counts e_keys t_keys s_keys) r
+  pub held : (after : Edited) → r ≡ Ok after → Held v after.counts e_keys t_keys s_keys t_sides s_sides
+  pub stay : (after : Edited) → r ≡ Ok after → (A : SimplexSet) → Marked marks.on (simplices X dim) A
+      → Marked after.marks.on (simplices (complex_in v after.counts e_keys t_keys s_keys) dim) A

@@ -11,7 +11,8 @@ ghost use Rattle.lent_lists.specs.Held.{complex_in, Counted, Roomy, Room, HoldsN
 
 use complexes::Complex;
 use keys::BUCKETS;
-use lists::{Marks, SimplexList, Verdict};
+use lists::{Marks, SimplexList};
+use refusals::Refusal;
 
 // How many simplices each list has.
 #[derive(Clone, Copy)]
@@ -108,11 +109,9 @@ fn hold(
     }
 }
 
-// A verdict on a job's edits; and beside it, which count only where nothing was refused, how many simplices each list has,
-// and the marks after them all.
+// After all edits of a job: how many simplices each list has, and the marks.
 #[derive(Clone, Copy)]
 pub struct Edited {
-    pub verdict: Verdict,
     pub counts: Counts,
     pub marks: Marks,
 }
@@ -131,33 +130,20 @@ pub fn take_edits(
     s_keys: &mut [u64],
     t_sides: &mut [u64],
     s_sides: &mut [u64],
-) -> Edited
+) -> Result<Edited, Refusal>
     requires { Held v counts e_keys.old t_keys.old s_keys.old t_sides.old s_sides.old }
     ensures { EditsHeld job.now at dim v (complex_in v counts e_keys.old t_keys.old s_keys.old) marks e_keys.new t_keys.new s_keys.new t_sides.new s_sides.new result }
 {
     if job.len() <= at {
-        return Edited {
-            verdict: Verdict::Fine,
-            counts,
-            marks,
-        };
+        return Ok(Edited { counts, marks });
     }
     let complex = complex_of(v, counts, e_keys, t_keys, s_keys);
-    let edited = edits::read_edits(job, at, complex, marks, dim);
-    let verdict = edited.verdict;
-    if let Verdict::Refused(number, place) = verdict {
-        return Edited {
-            verdict: Verdict::Refused(number, place),
-            counts,
-            marks,
-        };
-    }
+    let edited = edits::read_edits(job, at, complex, marks, dim)?;
     let after = edited.complex;
     let marks_after = edited.marks;
     let counts_after = hold(after, e_keys, t_keys, s_keys, t_sides, s_sides);
-    Edited {
-        verdict: Verdict::Fine,
+    Ok(Edited {
         counts: counts_after,
         marks: marks_after,
-    }
+    })
 }

@@ -2,6 +2,7 @@
 -- what is left of it is put into the arrays again.
 -- Assumes nothing.
 use mathlib.Core.Path.{refl}
+use Rattle.refusals.specs.Readings.{handed_up}
 use Rattle.lent_lists.specs.HeldLaws.{held-roomy}
 use Rattle.lent_lists.proofs.Editing.{editing-none, editing-refused, editing-room, editing-done}
 use Rattle.lent_lists.proofs.take_edits.Goals as goal
@@ -12,16 +13,17 @@ returns-then-job-at c = editing-none c.if-job-at.true c.requires
 pub complex_of-complex-requires : goal.complex_of-complex-requires
 complex_of-complex-requires c = held-roomy c.requires
 
-pub returns-in-Refused : goal.returns-in-Refused
-returns-in-Refused c =
-    editing-refused c.complex_of-complex.ensures c.read_edits-edited.ensures c.in-Refused.is
+pub returns-in_err-edited : goal.returns-in_err-edited
+returns-in_err-edited c =
+    rw (handed_up c.from_residual.result c.from_residual.ensures.1)
+    (editing-refused c.complex_of-complex.ensures c.read_edits.ensures _ c.in_err-edited.was)
 
 pub hold-counts_after-requires : goal.hold-counts_after-requires
 hold-counts_after-requires c =
-    editing-room c.complex_of-complex.ensures c.read_edits-edited.ensures c.in_default.is
+    editing-room c.complex_of-complex.ensures c.read_edits.ensures c.in_ok-edited.was
     c.requires.room
 
 pub returns : goal.returns
 returns c =
-    editing-done c.complex_of-complex.ensures c.read_edits-edited.ensures c.in_default.is refl
+    editing-done c.complex_of-complex.ensures c.read_edits.ensures c.in_ok-edited.was refl
     c.requires.sound c.hold-counts_after.ensures
