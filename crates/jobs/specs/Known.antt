@@ -1,30 +1,29 @@
--- A job that was read is readable: what its verdict says is known of every accepted file.
-use Rattle.std.specs.Prelude.{ℕ, ◌≤◌, ◌≡◌, List, length, replicate}
-use Rattle.std.proofs.Common.{sym, ◌∙◌, ap, arith}
+-- A job that was read is readable: what reading it comes to is known of every accepted file.
+use Rattle.std.specs.Prelude.{ℕ, ◌≤◌, ◌≡◌, List, length, replicate, Result}
+use Rattle.std.proofs.Common.{Ok, Err, sym, ◌∙◌, ap, arith}
 use Rattle.format.specs.Numbers.{small}
 use Rattle.format.specs.Simplex.{Complex}
-use Rattle.format.specs.Reading.{Reading, Job, ◌and_then◌, reading, accepted, refused, question_of}
+use Rattle.format.specs.Reading.{Reading, Job, ◌and_then◌, reading, accepted, question_of}
 use Rattle.format.proofs.EditLaws.{edits-ended}
 use Rattle.format.proofs.Accepted.{accepted-sound}
-use Rattle.lists.specs.Verdicts.{reading_of}
-use Rattle.lists.specs.declared.Verdict.{Verdict}
-use Rattle.lists.specs.declared.Verdict.TheVariants.{Fine, Refused}
+use Rattle.refusals.specs.Readings.{refused_by, reading_of}
+use Rattle.refusals.specs.declared.Refusal.{Refusal}
 use Rattle.complexes.specs.Meaning.{job_of}
+use Rattle.complexes.specs.declared.Job.{Job as Asked}
 use Rattle.jobs.specs.Meaning.{Outcome, Readable, job_in, FileRoom, with_edits, Unedited, Told, Asking}
-use Rattle.jobs.specs.declared.JobRead.{JobRead}
 use Rattle.jobs.specs.declared.NumbersRead.{NumbersRead}
 
-pub read-accepted : (b : List ℕ) (r : JobRead) (o : Outcome (reading small b) r) → r.verdict ≡ Fine → reading small b ≡ accepted (job_of r.job o.set)
-read-accepted b r o f = o.is ∙ ap (λ v. reading_of v (job_of r.job o.set)) f
+pub read-accepted : (b : List ℕ) (j : Asked) (r : Result Asked Refusal) (o : Outcome (reading small b) r) → r ≡ Ok j → reading small b ≡ accepted (job_of j o.set)
+read-accepted b j r o f = o.is ∙ ap (reading_of (λ j. job_of j o.set)) f
 
-unfoldable pub read_readable : (b : List ℕ) (r : JobRead) (o : Outcome (reading small b) r) → r.verdict ≡ Fine → Readable r.job
-read_readable b r o f =
+unfoldable pub read_readable : (b : List ℕ) (j : Asked) (r : Result Asked Refusal) (o : Outcome (reading small b) r) → r ≡ Ok j → Readable j
+read_readable b j r o f =
     record {
       set = o.set;
-      sound = accepted-sound small b (job_of r.job o.set) (read-accepted b r o f);
-      head = o.head f;
-      v = o.v f;
-      marks = o.marks f;
+      sound = accepted-sound small b (job_of j o.set) (read-accepted b j r o f);
+      head = o.head j f;
+      v = o.v j f;
+      marks = o.marks j f;
     }
 
 -- arrays of 512 have room for the lists of any file
@@ -38,18 +37,23 @@ zeros-room b at = record {
 }
 
 -- UP TO THE EDITS: a refusal there is the outcome, and so is the job where no edit stands behind it.
-module _ {b e_keys t_keys s_keys t_sides s_sides : List ℕ} {r : Reading Job} {j : NumbersRead} (u : Unedited r b e_keys t_keys s_keys t_sides s_sides j) where
-  pub unedited-refusal : {n p : ℕ} → j.verdict ≡ Refused n p → r ≡ refused n p
-  unedited-refusal e = u.is ∙ ap (λ (v : Verdict). reading_of v (job_in j e_keys t_keys s_keys u.set) and_then with_edits b j.next) e
+module _ {b e_keys t_keys s_keys t_sides s_sides : List ℕ} {r : Reading Job} {read : Result NumbersRead Refusal}
+    (u : Unedited r b e_keys t_keys s_keys t_sides s_sides read) where
+  -- what stands behind the reading up to the edits
+  abbrev behind : Result NumbersRead Refusal → Reading Job
+  behind x = reading_of (λ j. j) x and_then λ j. with_edits b j.next (job_in j e_keys t_keys s_keys u.set)
 
-  pub unedited-told : j.verdict ≡ Fine → length b ≤ j.next → Told r e_keys t_keys s_keys t_sides s_sides j
-  unedited-told f end = record {
+  pub unedited-refusal : {e : Refusal} → read ≡ Err e → r ≡ refused_by e
+  unedited-refusal is = u.is ∙ ap behind is
+
+  pub unedited-told : {j : NumbersRead} → read ≡ Ok j → length b ≤ j.next → Told r e_keys t_keys s_keys t_sides s_sides read
+  unedited-told {j} f end = record {
     set = u.set;
     is =
         u.is
-        ∙ ap (λ (v : Verdict). reading_of v (job_in j e_keys t_keys s_keys u.set) and_then with_edits b j.next) f
+        ∙ ap behind f
         ∙ ap (λ (x : Reading Complex). x and_then λ Y. accepted (asking Y)) (edits-ended 64 b j.next _ end)
-        ∙ ap (λ (v : Verdict). reading_of v (job_in j e_keys t_keys s_keys u.set)) (sym f);
+        ∙ ap (reading_of (λ j. job_in j e_keys t_keys s_keys u.set)) (sym f);
     held = u.held;
     marks = u.marks;
     head = u.head;
@@ -59,21 +63,21 @@ module _ {b e_keys t_keys s_keys t_sides s_sides : List ℕ} {r : Reading Job} {
       asking Y = record { question = question_of j.head.question; d = j.head.d; complex = Y; chain = u.set }
 
 -- and a refusal told is the reading's
-pub told-refusal : {r : Reading Job} {e_keys t_keys s_keys t_sides s_sides : List ℕ} {j : NumbersRead} → Told r e_keys t_keys s_keys t_sides s_sides j
-    → {n p : ℕ} → j.verdict ≡ Refused n p → r ≡ refused n p
-told-refusal {e_keys = e_keys} {t_keys = t_keys} {s_keys = s_keys} {j = j} o e = o.is ∙ ap (λ (v : Verdict). reading_of v (job_in j e_keys t_keys s_keys o.set)) e
+pub told-refusal : {r : Reading Job} {e_keys t_keys s_keys t_sides s_sides : List ℕ} {read : Result NumbersRead Refusal}
+    → Told r e_keys t_keys s_keys t_sides s_sides read → {e : Refusal} → read ≡ Err e → r ≡ refused_by e
+told-refusal {e_keys = e_keys} {t_keys = t_keys} {s_keys = s_keys} o is = o.is ∙ ap (reading_of (λ j. job_in j e_keys t_keys s_keys o.set)) is
 
 -- THE SAME, of a job in lent arrays.
-module _ (b : List ℕ) {e_keys t_keys s_keys t_sides s_sides : List ℕ} (r : NumbersRead)
-    (o : Told (reading small b) e_keys t_keys s_keys t_sides s_sides r) (f : r.verdict ≡ Fine) where
-  pub told-accepted : reading small b ≡ accepted (job_in r e_keys t_keys s_keys o.set)
-  told-accepted = o.is ∙ ap (λ v. reading_of v (job_in r e_keys t_keys s_keys o.set)) f
+module _ (b : List ℕ) {e_keys t_keys s_keys t_sides s_sides : List ℕ} (j : NumbersRead) (read : Result NumbersRead Refusal)
+    (o : Told (reading small b) e_keys t_keys s_keys t_sides s_sides read) (f : read ≡ Ok j) where
+  pub told-accepted : reading small b ≡ accepted (job_in j e_keys t_keys s_keys o.set)
+  told-accepted = o.is ∙ ap (reading_of (λ j. job_in j e_keys t_keys s_keys o.set)) f
 
-  unfoldable pub told_asking : Asking r e_keys t_keys s_keys t_sides s_sides
+  unfoldable pub told_asking : Asking j e_keys t_keys s_keys t_sides s_sides
   told_asking = record {
     set = o.set;
-    sound = accepted-sound small b (job_in r e_keys t_keys s_keys o.set) told-accepted;
-    head = o.head f;
-    held = o.held f;
-    marks = o.marks f;
+    sound = accepted-sound small b (job_in j e_keys t_keys s_keys o.set) told-accepted;
+    head = o.head j f;
+    held = o.held j f;
+    marks = o.marks j f;
   }

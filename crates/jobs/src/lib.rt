@@ -17,62 +17,23 @@ ghost use Rattle.heads.specs.Meaning.{head_of};
 ghost use Rattle.lent_lists.specs.Held.{complex_in, Held};
 ghost use Rattle.jobs.specs.Meaning.{Outcome, SoundHead, FileRoom, SizesTold, ListHeld, ListsTold, Unedited, Told};
 
-use complexes::{Complex, Job};
-use heads::{Head, HeadRead};
+use complexes::Job;
+use heads::Head;
 use keys::BUCKETS;
 use lent_lists::Counts;
-use lists::{Marks, SimplexList, Verdict};
+use lists::{Marks, SimplexList};
 use records::Header;
-use stages::{ListRead, Opened};
+use refusals::{Reason, Refusal};
+use stages::ListRead;
 
-// A verdict, and the job beside it, which counts only where nothing was refused.
-#[derive(Clone, Copy)]
-pub struct JobRead {
-    pub verdict: Verdict,
-    pub job: Job,
-}
-
-impl JobRead {
-    // "6,690 bytes a job"
-    pub const BYTES: usize = 6690;
-
-    fn refused(number: u16, place: usize) -> Self
-        ensures { result.verdict ≡ Verdict.Refused number place }
-    {
-        JobRead {
-            verdict: Verdict::Refused(number, place),
-            job: Job {
-                head: Head::new(Head::FILL, 1, 0),
-                complex: Complex::empty(),
-                marks: Marks::none(),
-            },
-        }
-    }
-}
-
-// The same with the lists left in lent arrays: the question, how many simplices each list has, and A as marks by rank, which
-// count only where nothing was refused. Before the edits are taken, `next` is the offset from which on they stand.
+// A job whose lists stay in lent arrays: the question, how many simplices each list has, and A as marks by rank. Before the edits
+// are taken, `next` is the offset from which on they stand.
 #[derive(Clone, Copy)]
 pub struct NumbersRead {
-    pub verdict: Verdict,
     pub head: Head,
     pub counts: Counts,
     pub marks: Marks,
     pub next: usize,
-}
-
-impl NumbersRead {
-    fn refused(number: u16, place: usize) -> Self
-        ensures { result.verdict ≡ Verdict.Refused number place }
-    {
-        NumbersRead {
-            verdict: Verdict::Refused(number, place),
-            head: Head::new(Head::FILL, 1, 0),
-            counts: Counts::none(),
-            marks: Marks::none(),
-            next: 0,
-        }
-    }
 }
 
 // The dimension of A: one below the answer's for a filling, the answer's for a class.
@@ -116,24 +77,11 @@ pub fn list_sizes(job: &[u8]) -> Sizes
     }
 }
 
-// The three lists as they were read, which count only where nothing was refused, and the offset behind them.
+// The three lists as they were read, and the offset behind them.
 #[derive(Clone, Copy)]
 struct ListsRead {
-    pub verdict: Verdict,
     pub counts: Counts,
     pub next: usize,
-}
-
-impl ListsRead {
-    fn refused(number: u16, place: usize) -> Self
-        ensures { result.verdict ≡ Verdict.Refused number place }
-    {
-        ListsRead {
-            verdict: Verdict::Refused(number, place),
-            counts: Counts::none(),
-            next: 0,
-        }
-    }
 }
 
 // The tetrahedra, over m triangles. Where no array was lent for them there are none, and nothing is set up to look them up.
@@ -147,7 +95,7 @@ fn read_tetrahedra(
     m: usize,
     s_keys: &mut [u64],
     s_sides: &mut [u64],
-) -> ListRead
+) -> Result<ListRead, Refusal>
     requires room_at { RoomAt job.now at 4 (length s_keys.old) }
     requires s_keys_in_bounds { length s_keys.old ≤ length s_sides.old }
     requires chained { Chained t_keys.now t_first.now t_next.now m }
@@ -167,7 +115,7 @@ fn read_tetrahedra(
         s_keys,
         &mut s_first,
         &mut s_next,
-    );
+    )?;
     stages::find_faces(
         job,
         at,
@@ -197,57 +145,57 @@ fn read_lists(
     s_keys: &mut [u64],
     t_sides: &mut [u64],
     s_sides: &mut [u64],
-) -> ListsRead
+) -> Result<ListsRead, Refusal>
     requires file_room { FileRoom job.now at e_keys.old t_keys.old s_keys.old t_sides.old s_sides.old }
     requires blank { Blank e_first.old e_next.old }
     ensures { ListsTold job.now at v e_keys.new e_first.new e_next.new t_keys.new s_keys.new t_sides.new s_sides.new result }
 {
-    let e = stages::read_list(job, at, SimplexList::EDGES, v, e_keys, e_first, e_next);
-    let edges_verdict = e.verdict;
-    if let Verdict::Refused(number, place) = edges_verdict {
-        return ListsRead::refused(number, place);
-    }
+    let edges = stages::read_list(job, at, SimplexList::EDGES, v, e_keys, e_first, e_next)?;
+    edges.verdict?;
     let mut t_first = [0u16; BUCKETS];
     let mut t_next = [0u16; SimplexList::LIMIT];
-    let t_taken = stages::read_list(
+    let taken = stages::read_list(
         job,
-        e.next,
+        edges.next,
         SimplexList::TRIANGLES,
         v,
         t_keys,
         &mut t_first,
         &mut t_next,
-    );
-    let t = stages::find_faces(
+    )?;
+    let found = stages::find_faces(
         job,
-        e.next,
+        edges.next,
         SimplexList::TRIANGLES,
         v,
         e_keys,
         e_first,
         e_next,
-        e.count,
+        edges.count,
         t_keys,
         t_sides,
-        t_taken,
+        taken,
     );
-    let triangles_verdict = t.verdict;
-    if let Verdict::Refused(number, place) = triangles_verdict {
-        return ListsRead::refused(number, place);
-    }
-    let s = read_tetrahedra(
-        job, t.next, v, t_keys, &t_first, &t_next, t.count, s_keys, s_sides,
-    );
-    let verdict = s.verdict;
-    ListsRead {
-        verdict,
+    let triangles = found?;
+    let tetrahedra = read_tetrahedra(
+        job,
+        triangles.next,
+        v,
+        t_keys,
+        &t_first,
+        &t_next,
+        triangles.count,
+        s_keys,
+        s_sides,
+    )?;
+    Ok(ListsRead {
         counts: Counts {
-            edges: e.count,
-            triangles: t.count,
-            tetrahedra: s.count,
+            edges: edges.count,
+            triangles: triangles.count,
+            tetrahedra: tetrahedra.count,
         },
-        next: s.next,
-    }
+        next: tetrahedra.next,
+    })
 }
 
 // What is asked about.
@@ -263,7 +211,7 @@ fn after_lists(
     s_keys: &[u64],
     t_sides: &[u64],
     s_sides: &[u64],
-) -> NumbersRead
+) -> Result<NumbersRead, Refusal>
     requires job_len_bound { length job.now ≤ 6690 }
     requires sound_head { SoundHead head }
     requires held { Held head.v counts e_keys.now t_keys.now s_keys.now t_sides.now s_sides.now }
@@ -274,17 +222,13 @@ fn after_lists(
     let dim = chain_dimension(head);
     let count = counts.of(v, dim);
     let edges = counts.edges;
-    let asked = chain_stage::read_chain(job, at, dim, count, edges, e_keys, e_first, e_next);
-    let verdict = asked.verdict;
-    let marks = asked.marks;
-    let next = asked.next;
-    NumbersRead {
-        verdict,
+    let asked = chain_stage::read_chain(job, at, dim, count, edges, e_keys, e_first, e_next)?;
+    Ok(NumbersRead {
         head,
         counts,
-        marks,
-        next,
-    }
+        marks: asked.marks,
+        next: asked.next,
+    })
 }
 
 // The lists, and then what is asked about.
@@ -297,7 +241,7 @@ fn after_head(
     s_keys: &mut [u64],
     t_sides: &mut [u64],
     s_sides: &mut [u64],
-) -> NumbersRead
+) -> Result<NumbersRead, Refusal>
     requires job_len_bound { length job.now ≤ 6690 }
     requires sound_head { SoundHead head }
     requires file_room { FileRoom job.now at e_keys.old t_keys.old s_keys.old t_sides.old s_sides.old }
@@ -316,11 +260,7 @@ fn after_head(
         s_keys,
         t_sides,
         s_sides,
-    );
-    let verdict = lists.verdict;
-    if let Verdict::Refused(number, place) = verdict {
-        return NumbersRead::refused(number, place);
-    }
+    )?;
     let counts = lists.counts;
     after_lists(
         job, head, lists.next, counts, e_keys, &e_first, &e_next, t_keys, s_keys, t_sides, s_sides,
@@ -335,30 +275,20 @@ pub fn read_unedited(
     s_keys: &mut [u64],
     t_sides: &mut [u64],
     s_sides: &mut [u64],
-) -> NumbersRead
+) -> Result<NumbersRead, Refusal>
     requires { FileRoom job.now 10 e_keys.old t_keys.old s_keys.old t_sides.old s_sides.old }
     ensures { Unedited (reading small job.now) job.now e_keys.new t_keys.new s_keys.new t_sides.new s_sides.new result }
 {
-    if JobRead::BYTES < job.len() {
-        return NumbersRead::refused(Verdict::TOO_LONG, 0);
+    if Job::BYTES < job.len() {
+        return Err(Reason::TooLong.at(0));
     }
-    let opened = stages::open(job, 0, Head::KIND);
-    match opened {
-        Opened::Refused(number) => NumbersRead::refused(number, 0),
-        Opened::Size(size) => {
-            if size != Head::BYTES {
-                return NumbersRead::refused(Verdict::SHAPE, 0);
-            }
-            let p = records::payload(job, 0, size);
-            let read = heads::read_head(p);
-            match read {
-                HeadRead::Bad => NumbersRead::refused(Verdict::HEAD, 0),
-                HeadRead::Sound(head) => after_head(
-                    job, head, LISTS, e_keys, t_keys, s_keys, t_sides, s_sides,
-                ),
-            }
-        }
+    let size = stages::open(job, 0, Head::KIND)?;
+    if size != Head::BYTES {
+        return Err(Reason::Shape.at(0));
     }
+    let p = records::payload(job, 0, size);
+    let head = heads::read_head(p)?;
+    after_head(job, head, LISTS, e_keys, t_keys, s_keys, t_sides, s_sides)
 }
 
 // Takes the edits of a job that was read up to them.
@@ -370,9 +300,9 @@ pub fn take_edits(
     s_keys: &mut [u64],
     t_sides: &mut [u64],
     s_sides: &mut [u64],
-) -> NumbersRead
+) -> Result<NumbersRead, Refusal>
     requires { Held read.head.v read.counts e_keys.old t_keys.old s_keys.old t_sides.old s_sides.old }
-    ensures { (r0 : Reading format.Job) → Unedited r0 job.now e_keys.old t_keys.old s_keys.old t_sides.old s_sides.old read → read.verdict ≡ Verdict.Fine → Told r0 e_keys.new t_keys.new s_keys.new t_sides.new s_sides.new result }
+    ensures { (r0 : Reading format.Job) → Unedited r0 job.now e_keys.old t_keys.old s_keys.old t_sides.old s_sides.old (Ok read) → Told r0 e_keys.new t_keys.new s_keys.new t_sides.new s_sides.new result }
 {
     let head = read.head;
     let counts = read.counts;
@@ -380,21 +310,19 @@ pub fn take_edits(
     let dim = chain_dimension(head);
     let edited = lent_lists::take_edits(
         job, read.next, head.v, counts, marks, dim, e_keys, t_keys, s_keys, t_sides, s_sides,
-    );
-    let verdict = edited.verdict;
+    )?;
     let counts_after = edited.counts;
     let marks_after = edited.marks;
-    NumbersRead {
-        verdict,
+    Ok(NumbersRead {
         head,
         counts: counts_after,
         marks: marks_after,
         next: job.len(),
-    }
+    })
 }
 
 // Reads a job file, any bytes of any length.
-pub fn read_job(job: &[u8]) -> JobRead
+pub fn read_job(job: &[u8]) -> Result<Job, Refusal>
     ensures { Outcome (reading small job.now) result }
 {
     let mut e_keys = [0u64; SimplexList::LIMIT];
@@ -409,11 +337,7 @@ pub fn read_job(job: &[u8]) -> JobRead
         &mut s_keys,
         &mut t_sides,
         &mut s_sides,
-    );
-    let verdict_unedited = unedited.verdict;
-    if let Verdict::Refused(number, place) = verdict_unedited {
-        return JobRead::refused(number, place);
-    }
+    )?;
     let read = take_edits(
         job,
         unedited,
@@ -422,23 +346,14 @@ pub fn read_job(job: &[u8]) -> JobRead
         &mut s_keys,
         &mut t_sides,
         &mut s_sides,
-    );
-    let verdict = read.verdict;
-    match verdict {
-        Verdict::Refused(number, place) => JobRead::refused(number, place),
-        Verdict::Fine => {
-            let head = read.head;
-            let counts = read.counts;
-            let marks = read.marks;
-            let complex = lent_lists::complex_of(head.v, counts, &e_keys, &t_keys, &s_keys);
-            JobRead {
-                verdict: Verdict::Fine,
-                job: Job {
-                    head,
-                    complex,
-                    marks,
-                },
-            }
-        }
-    }
+    )?;
+    let head = read.head;
+    let counts = read.counts;
+    let marks = read.marks;
+    let complex = lent_lists::complex_of(head.v, counts, &e_keys, &t_keys, &s_keys);
+    Ok(Job {
+        head,
+        complex,
+        marks,
+    })
 }

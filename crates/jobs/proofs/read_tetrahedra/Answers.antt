@@ -7,7 +7,10 @@ use mathlib.Core.Path.{sym, subst}
 use Rattle.lookup.specs.Indexed.{Keyed}
 use Rattle.lookup.specs.IndexLaws.{zeros-blank}
 use Rattle.lookup.specs.Numbered.{simplices_in}
+use Rattle.refusals.specs.Readings.{handed_up, not_read}
+use Rattle.stages.specs.Meaning.{ListTaken, TakenList}
 use Rattle.jobs.proofs.Laws.{nothing-held}
+use Rattle.jobs.proofs.read_tetrahedra.Goals.{In_ok-taken}
 use Rattle.jobs.proofs.read_tetrahedra.Goals as goal
 
 pub read_nothing-requires : goal.read_nothing-requires
@@ -17,22 +20,42 @@ read_nothing-requires c =
 pub returns-then-s_keys-eq0 : goal.returns-then-s_keys-eq0
 returns-then-s_keys-eq0 c = λ faces under. nothing-held c.read_nothing.ensures
 
-pub read_list-taken-requires : goal.read_list-taken-requires
-read_list-taken-requires c =
+pub read_list-requires : goal.read_list-requires
+read_list-requires c =
     record { le_kind = (omega arith, omega arith); room_at = c.requires.room_at; blank = zeros-blank }
+
+pub returns-in_err-taken : goal.returns-in_err-taken
+returns-in_err-taken c = λ faces under.
+    let a = c.args in
+    let told = subst (ListTaken a.job.now a.at 4 a.v c.read_list.new.keys c.read_list.new.first c.read_list.new.next) c.in_err-taken.was c.read_list.ensures in
+    rw (handed_up c.from_residual.result c.from_residual.ensures.1)
+    (record { reads = sym (told.reads faces); keyed = λ l f. absurd (not_read f); within = λ l f. absurd (not_read f); sided = λ l f. absurd (not_read f) })
+
+-- the tetrahedra were taken
+taken : (c : In_ok-taken) → let a = c.args in
+    TakenList a.job.now a.at 4 a.v c.read_list.new.keys c.read_list.new.first c.read_list.new.next c.in_ok-taken.taken
+taken c =
+    let a = c.args in
+    subst (ListTaken a.job.now a.at 4 a.v c.read_list.new.keys c.read_list.new.first c.read_list.new.next) c.in_ok-taken.was c.read_list.ensures
 
 pub find_faces-requires : goal.find_faces-requires
 find_faces-requires c =
-    let taken = c.read_list-taken.ensures in
-    record { lt_kind = (omega arith, omega arith, c.requires.m_bound); chained = c.requires.chained; count_in_bounds = (taken.indexed.chained.keyed, omega (arith, taken.indexed.chained.keyed, c.requires.s_keys_in_bounds, c.read_list-taken.auto.keys)); count_in_bounds_2 = taken.within }
+    let t = taken (goal.at.find_faces-requires c).In_ok-taken in
+    record {
+      lt_kind = (omega arith, omega arith, c.requires.m_bound);
+      chained = c.requires.chained;
+      count_in_bounds = (t.indexed.chained.keyed, omega (arith, t.indexed.chained.keyed, c.requires.s_keys_in_bounds, c.read_list.auto.keys));
+      count_in_bounds_2 = t.within;
+    }
 
 pub returns : goal.returns
 returns c = λ faces under.
-    let taken = c.read_list-taken.ensures in
-    let found = c.find_faces.ensures _ _ taken faces under in
+    let t = taken (goal.at.returns c).In_ok-taken in
+    let found = c.find_faces.ensures _ _ t faces under in
     record {
       reads = found.reads;
-      keyed = subst (λ (n : ℕ). Keyed (simplices_in 4 c.read_list-taken.new.keys n) c.read_list-taken.new.keys n) (sym found.count) taken.indexed.keyed;
-      within = omega (arith, found.count, taken.indexed.chained.keyed);
-      sided = found.sided;
+      keyed = λ l f.
+          subst (λ (n : ℕ). Keyed (simplices_in 4 c.read_list.new.keys n) c.read_list.new.keys n) (sym (found.found l f).count) t.indexed.keyed;
+      within = λ l f. omega (arith, (found.found l f).count, t.indexed.chained.keyed);
+      sided = λ l f. (found.found l f).sided;
     }
