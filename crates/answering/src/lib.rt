@@ -5,14 +5,18 @@
 ghost use Rattle.std.specs.Prelude.{◌≡◌, ◌≤◌, length};
 ghost use Rattle.format.specs.Simplex.{vertex_list, lower, simplices};
 ghost use Rattle.format.specs.Reading.{fill, class, chain_dimension, question_of};
+ghost use Rattle.format.specs.Answer.{refusal_record};
+ghost use Rattle.refusals.specs.Meaning.{number_of};
 ghost use Rattle.lookup.specs.Numbered.{simplices_in};
+ghost use Rattle.writer.specs.Meaning.{Put};
 ghost use Rattle.lent_lists.specs.Held.{complex_in, Held};
 ghost use Rattle.jobs.specs.Meaning.{FileRoom, Asking, job_in};
 ghost use Rattle.solver.specs.Solved.{RimTold};
 ghost use Rattle.answering.specs.Meaning.{Answers, AnswersFile, of_dimension};
 
 use jobs::NumbersRead;
-use lists::{SimplexList, Verdict};
+use lists::SimplexList;
+use refusals::{Reason, Refusal};
 use slots::Filled;
 
 // Of three lists' numbers, or sides, those of a dimension from 1 on.
@@ -43,6 +47,14 @@ fn number_vertices(keys: &mut [u64], v: usize)
         keys[i] = i as u64;
         i += 1;
     }
+}
+
+// Puts a refusal's record at the front of the output.
+fn refuse(out: &mut [u8], refusal: Refusal) -> usize
+    requires { 12 ≤ length out.old }
+    ensures { Put out.old 0 (refusal_record (number_of refusal.reason) refusal.place) out.new result }
+{
+    answers::put_refusal(out, u16::from(refusal.reason), refusal.place)
 }
 
 // Whether the boundary of A, of dimension `dim`, is empty: that of vertices is.
@@ -110,9 +122,9 @@ fn answer_fill<'a>(
         Filled::None => {
             let closed = rim_closed(read, dim, e_keys, t_keys, s_keys, t_sides, s_sides);
             if !closed {
-                return answers::put_refusal(out, Verdict::RIM_OPEN, 0);
+                return refuse(out, Reason::RimOpen.at(0));
             }
-            answers::put_refusal(out, Verdict::NO_FILLING, 0)
+            refuse(out, Reason::NoFilling.at(0))
         }
     }
 }
@@ -201,18 +213,15 @@ pub fn answer_in(
     requires in_bounds_2 { 65536 ≤ length work.old }
     ensures { AnswersFile job.now out.old out.new result }
 {
-    let read = jobs::read_unedited(job, e_keys, t_keys, s_keys, t_sides, s_sides);
-    let verdict = read.verdict;
-    if let Verdict::Refused(number, place) = verdict {
-        return answers::put_refusal(out, number, place);
-    }
+    let read = match jobs::read_unedited(job, e_keys, t_keys, s_keys, t_sides, s_sides) {
+        Ok(read) => read,
+        Err(refusal) => return refuse(out, refusal),
+    };
     if job.len() <= read.next {
         return answer_job(out, work, read, e_keys, t_keys, s_keys, t_sides, s_sides);
     }
-    let edited = jobs::take_edits(job, read, e_keys, t_keys, s_keys, t_sides, s_sides);
-    let verdict_edited = edited.verdict;
-    if let Verdict::Refused(number, place) = verdict_edited {
-        return answers::put_refusal(out, number, place);
+    match jobs::take_edits(job, read, e_keys, t_keys, s_keys, t_sides, s_sides) {
+        Ok(edited) => answer_job(out, work, edited, e_keys, t_keys, s_keys, t_sides, s_sides),
+        Err(refusal) => refuse(out, refusal),
     }
-    answer_job(out, work, edited, e_keys, t_keys, s_keys, t_sides, s_sides)
 }

@@ -10,7 +10,8 @@ ghost use Rattle.format.specs.Promise.{AnswerPromise, WritePromise};
 ghost use Rattle.jobs.specs.Meaning.{FileRoom};
 ghost use Rattle.answering.specs.Meaning.{AnswersFile};
 
-use lists::{SimplexList, Verdict};
+use lists::SimplexList;
+use refusals::Refusal;
 
 // So many places are lent for the triangles of a small job, a quarter of a list's limit, and twice as many for its edges, of which
 // a surface has half as many again as triangles.
@@ -105,11 +106,11 @@ pub fn mvz_answer(job: &[u8], out: &mut [u8], work: &mut [u8]) -> usize
     ensures { AnswerPromise small job.now out.old work.old result out.new work.new }
 {
     let room = out.len();
-    if room < Verdict::ROOM_OUT {
+    if room < Refusal::ROOM_OUT {
         return 0;
     }
     let memory = work.len();
-    if memory < Verdict::ROOM_WORK {
+    if memory < Refusal::ROOM_WORK {
         return 0;
     }
     let count = answer_file(job, out, work);

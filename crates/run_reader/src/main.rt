@@ -3,29 +3,20 @@
 // frame is cut or longer than the buffer.
 #![tactic(auto)]
 
-use lists::Verdict;
-
-// Writes the line of one verdict.
-fn report(verdict: Verdict) {
-    match verdict {
-        Verdict::Fine => {
+// Reads one job file and writes its line.
+fn judge(job: &[u8]) {
+    match jobs::read_job(job) {
+        Ok(_) => {
             io::write_all(1, b"ok\n");
         }
-        Verdict::Refused(number, place) => {
+        Err(refusal) => {
             io::write_all(1, b"refused ");
-            io::print_decimal(1, number as u64);
+            io::print_decimal(1, u16::from(refusal.reason) as u64);
             io::write_all(1, b" ");
-            io::print_decimal(1, place as u64);
+            io::print_decimal(1, refusal.place as u64);
             io::write_all(1, b"\n");
         }
     }
-}
-
-// Reads one job file and writes its line.
-fn judge(job: &[u8]) {
-    let read = jobs::read_job(job);
-    let verdict = read.verdict;
-    report(verdict);
 }
 
 // Fills the part with a job file and judges it, and answers whether the input had so many bytes.

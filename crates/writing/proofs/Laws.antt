@@ -8,7 +8,7 @@ use native.Mathlib.Omega.{arith}
 use native.Mathlib.Nat.{zero-add}
 use lib.ListN.{length, take, drop, length-take}
 use Rattle.format.specs.Numbers.{small, room}
-use Rattle.format.specs.Reading.{accepted, refused, reading, question_byte, question_of, chain_dimension}
+use Rattle.format.specs.Reading.{accepted, reading, question_byte, question_of, chain_dimension}
 use Rattle.format.specs.Reading as reader
 use Rattle.format.specs.Answer.{rows, row_dimension}
 use Rattle.format.specs.Writing.{places_from, normal_form}
@@ -17,13 +17,15 @@ use Rattle.format.specs.Normal.{places-few}
 use Rattle.format.specs.RoundTrip.{length-normal_form, normal-fits, chosen-fits}
 use Rattle.format.specs.Promise.{two_numbers, WrittenJob, too_short, written, Written, WritePromise}
 use Rattle.lists.specs.Meaning.{simplices_of}
-use Rattle.lists.specs.Verdicts.{reading_of}
-use Rattle.lists.specs.declared.Verdict.TheVariants.{Fine, Refused}
+use Rattle.std.specs.Prelude.{Result}
+use Rattle.std.proofs.Common.{Ok, Err}
+use Rattle.refusals.specs.Meaning.{number_of}
+use Rattle.refusals.specs.Readings.{refused_by, reading_of}
+use Rattle.refusals.specs.declared.Refusal.{Refusal}
 use Rattle.complexes.specs.Meaning.{job_of, list_of}
 use Rattle.complexes.specs.declared.Job.{Job}
 use Rattle.jobs.specs.Meaning.{Outcome, Readable}
 use Rattle.jobs.specs.Known.{read-accepted, read_readable}
-use Rattle.jobs.specs.declared.JobRead.{JobRead}
 use Rattle.writer.specs.Meaning.{Put, job_bytes}
 use Rattle.writer.specs.Splice.{splice}
 use Rattle.writer.specs.Normal.{normal-bytes}
@@ -77,16 +79,16 @@ module _ (job : Job) (k : Readable job) (n : ℕ) (all : n ≡ length (chosen_fr
       (put.lent ∙ ap (splice out 0) bytes-normal ∙ ap (λ i. normal_form meant ++ drop i out) (zero-add (length (normal_form meant))))
 
 -- A REFUSED JOB.
-module _ (b : List ℕ) (r : JobRead) (o : Outcome (reading small b) r) where
-  pub read-refused : (n p : ℕ) → r.verdict ≡ Refused n p → reading small b ≡ refused n p
-  read-refused n p v = o.is ∙ ap (λ x. reading_of x (job_of r.job o.set)) v
+module _ (b : List ℕ) {r : Result Job Refusal} (o : Outcome (reading small b) r) where
+  pub read-refused : (e : Refusal) → r ≡ Err e → reading small b ≡ refused_by e
+  read-refused e v = o.is ∙ ap (reading_of (λ j. job_of j o.set)) v
 
-  pub write-refused : (out : List ℕ) (n p result : ℕ) → r.verdict ≡ Refused n p → result ≡ two_numbers n p → WritePromise small b out result out
-  write-refused out n p result v e = subst (λ x. Written x out result out) (sym (read-refused n p v)) (e, refl)
+  pub write-refused : (out : List ℕ) (e : Refusal) (result : ℕ) → r ≡ Err e → result ≡ two_numbers (number_of e.reason) e.place → WritePromise small b out result out
+  write-refused out e result v is = subst (λ x. Written x out result out) (sym (read-refused e v)) (is, refl)
 
-  pub write-accepted : (out out' : List ℕ) (result : ℕ) → r.verdict ≡ Fine →
-      ((k : Readable r.job) → WrittenJob (job_of r.job k.set) out result out') → WritePromise small b out result out'
+  pub write-accepted : (out out' : List ℕ) (result : ℕ) (j : Job) → r ≡ Ok j →
+      ((k : Readable j) → WrittenJob (job_of j k.set) out result out') → WritePromise small b out result out'
   unfolding read_readable
-  write-accepted out out' result v done =
-      let known : accepted (job_of r.job o.set) ≡ reading small b = sym (read-accepted b r o v) in
-      subst (λ x. Written x out result out') known (done (read_readable b r o v))
+  write-accepted out out' result j v done =
+      let known : accepted (job_of j o.set) ≡ reading small b = sym (read-accepted b j r o v) in
+      subst (λ x. Written x out result out') known (done (read_readable b j r o v))

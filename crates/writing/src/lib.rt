@@ -10,7 +10,7 @@ ghost use Rattle.writer.specs.Meaning.{job_bytes};
 ghost use Rattle.writing.specs.Meaning.{chosen_from};
 
 use complexes::Job;
-use lists::Verdict;
+use refusals::Reason;
 
 // Two numbers in one: the upper 32 bits and the lower.
 fn two_numbers(upper: u64, lower: u64) -> u64
@@ -50,7 +50,7 @@ fn write_read(out: &mut [u8], job: Job) -> u64
     let n = complex.count(jobs::chain_dimension(head));
     let total = normal_length(job, n);
     if out.len() < total {
-        return two_numbers(Verdict::ROOM as u64, 0);
+        return two_numbers(u16::from(Reason::Room) as u64, 0);
     }
     writer::put_job(out, job, n);
     total as u64
@@ -60,13 +60,8 @@ fn write_read(out: &mut [u8], job: Job) -> u64
 pub fn write(job: &[u8], out: &mut [u8]) -> u64
     ensures { WritePromise small job.now out.old result out.new }
 {
-    let read = jobs::read_job(job);
-    let verdict = read.verdict;
-    match verdict {
-        Verdict::Refused(number, place) => two_numbers(number as u64, place as u64),
-        Verdict::Fine => {
-            let asked = read.job;
-            write_read(out, asked)
-        }
+    match jobs::read_job(job) {
+        Ok(asked) => write_read(out, asked),
+        Err(refusal) => two_numbers(u16::from(refusal.reason) as u64, refusal.place as u64),
     }
 }
