@@ -15,7 +15,9 @@ use Rattle.format.specs.Reading.{Reading, refused, reading, Job, Question, fill,
 use Rattle.format.specs.Listed.{and-true}
 use Rattle.format.specs.Rims.{filled-closed}
 use Rattle.format.specs.Answer.{row_dimension, rows, cols, matrix, asked_chain, rim, FillAnswer, open_rim, unfilled, patch, AnswerTo, Answered, refusal_record, chain_record}
-use Rattle.lists.specs.declared.Verdict.TheVariants.{Fine}
+use Rattle.std.specs.Prelude.{Result}
+use Rattle.std.proofs.Common.{Ok}
+use Rattle.refusals.specs.declared.Refusal.{Refusal}
 use Rattle.lent_lists.specs.Held.{complex_in}
 use Rattle.jobs.specs.Meaning.{Asking, Told, job_in}
 use Rattle.jobs.specs.Known.{told-accepted, told_asking}
@@ -121,13 +123,13 @@ module _ {b before after : List ℕ} {count : ℕ} where
   pub file-refused : {n p : ℕ} → reading small b ≡ refused n p → Put before 0 (refusal_record n p) after count → AnswersFile b before after count
   file-refused {n} {p} e put = record { answer = refusal_record n p; is = subst (λ (x : Reading Job). Answered x (refusal_record n p)) (sym e) refl; put = put }
 
-  pub file-answered : {e_keys t_keys s_keys t_sides s_sides : List ℕ} {r : NumbersRead} → Told (reading small b) e_keys t_keys s_keys t_sides s_sides r → r.verdict ≡ Fine
-      → ((k : Asking r e_keys t_keys s_keys t_sides s_sides) → Answers (job_in r e_keys t_keys s_keys k.set) before after count)
+  pub file-answered : {e_keys t_keys s_keys t_sides s_sides : List ℕ} {j : NumbersRead} {r : Result NumbersRead Refusal} → Told (reading small b) e_keys t_keys s_keys t_sides s_sides r → r ≡ Ok j
+      → ((k : Asking j e_keys t_keys s_keys t_sides s_sides) → Answers (job_in j e_keys t_keys s_keys k.set) before after count)
       → AnswersFile b before after count
   unfolding told_asking
-  file-answered {r = r} told fine answers =
-      let a = answers (told_asking b r told fine) in
-      record { answer = a.answer; is = subst (λ (x : Reading Job). Answered x a.answer) (sym (told-accepted b r told fine)) a.is; put = a.put }
+  file-answered {j = j} {r = r} told fine answers =
+      let a = answers (told_asking b j r told fine) in
+      record { answer = a.answer; is = subst (λ (x : Reading Job). Answered x a.answer) (sym (told-accepted b j r told fine)) a.is; put = a.put }
 
 -- THE QUESTION of a head, and the dimension of A.
 pub asks-filling : (q : ℕ) → q ≡ 1 → question_of q ≡ fill

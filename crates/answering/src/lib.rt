@@ -16,7 +16,7 @@ ghost use Rattle.answering.specs.Meaning.{Answers, AnswersFile, of_dimension};
 
 use jobs::NumbersRead;
 use lists::SimplexList;
-use refusals::{Reason, Refusal};
+use refusals::Reason;
 use slots::Filled;
 
 // Of three lists' numbers, or sides, those of a dimension from 1 on.
@@ -50,11 +50,11 @@ fn number_vertices(keys: &mut [u64], v: usize)
 }
 
 // Puts a refusal's record at the front of the output.
-fn refuse(out: &mut [u8], refusal: Refusal) -> usize
+fn refuse(out: &mut [u8], reason: Reason, place: usize) -> usize
     requires { 12 ≤ length out.old }
-    ensures { Put out.old 0 (refusal_record (number_of refusal.reason) refusal.place) out.new result }
+    ensures { Put out.old 0 (refusal_record (number_of reason) place) out.new result }
 {
-    answers::put_refusal(out, u16::from(refusal.reason), refusal.place)
+    answers::put_refusal(out, u16::from(reason), place)
 }
 
 // Whether the boundary of A, of dimension `dim`, is empty: that of vertices is.
@@ -122,9 +122,9 @@ fn answer_fill<'a>(
         Filled::None => {
             let closed = rim_closed(read, dim, e_keys, t_keys, s_keys, t_sides, s_sides);
             if !closed {
-                return refuse(out, Reason::RimOpen.at(0));
+                return refuse(out, Reason::RimOpen, 0);
             }
-            refuse(out, Reason::NoFilling.at(0))
+            refuse(out, Reason::NoFilling, 0)
         }
     }
 }
@@ -215,13 +215,13 @@ pub fn answer_in(
 {
     let read = match jobs::read_unedited(job, e_keys, t_keys, s_keys, t_sides, s_sides) {
         Ok(read) => read,
-        Err(refusal) => return refuse(out, refusal),
+        Err(refusal) => return refuse(out, refusal.reason, refusal.place),
     };
     if job.len() <= read.next {
         return answer_job(out, work, read, e_keys, t_keys, s_keys, t_sides, s_sides);
     }
     match jobs::take_edits(job, read, e_keys, t_keys, s_keys, t_sides, s_sides) {
         Ok(edited) => answer_job(out, work, edited, e_keys, t_keys, s_keys, t_sides, s_sides),
-        Err(refusal) => refuse(out, refusal),
+        Err(refusal) => refuse(out, refusal.reason, refusal.place),
     }
 }

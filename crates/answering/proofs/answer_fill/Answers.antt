@@ -79,15 +79,15 @@ put_chain-requires c =
 pub rim_closed-closed-requires : goal.rim_closed-closed-requires
 rim_closed-closed-requires c = record { asking = c.requires.asking; dim_bound = small-dim (goal.at.rim_closed-closed-requires c).Start }
 
-pub put_refusal-requires : goal.put_refusal-requires
-put_refusal-requires c = omega (arith, c.requires.in_bounds)
+pub refuse-requires : goal.refuse-requires
+refuse-requires c = omega (arith, c.requires.in_bounds)
 
 pub returns-then-not-closed : goal.returns-then-not-closed
 returns-then-not-closed c = λ k.
-    answers-open k c.requires.dim_value c.requires.question_value c.rim_closed-closed.ensures c.if-not-closed.true c.put_refusal.ensures
+    answers-open k c.requires.dim_value c.requires.question_value c.rim_closed-closed.ensures c.if-not-closed.true c.refuse.ensures
 
-pub put_refusal-requires-in-None : goal.put_refusal-requires-in-None
-put_refusal-requires-in-None c = omega (arith, c.requires.in_bounds)
+pub refuse-requires-in-None : goal.refuse-requires-in-None
+refuse-requires-in-None c = omega (arith, c.requires.in_bounds)
 
 pub returns-in-Found : goal.returns-in-Found
 unfolding half_v matrix-in
@@ -107,4 +107,4 @@ returns-else-not-closed c = λ k.
     (fill-says (c.fill-filled.ensures
     (matrix-in c.requires.asking.held c.args.dim _ _ c.numbers_of-sides.ensures (small-dim (goal.at.returns-else-not-closed c).Start) (m-is (goal.at.returns-else-not-closed c).After-numbers_of-sides) (n-is (goal.at.returns-else-not-closed c).After-numbers_of-sides)))
     c.in-None.is)
-    c.put_refusal-in-None.ensures
+    c.refuse-in-None.ensures
