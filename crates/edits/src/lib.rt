@@ -137,16 +137,12 @@ impl EditsRead {
 pub fn read_edits(
     job: &[u8],
     mut at: usize,
-    complex: Complex,
+    mut complex: Complex,
     mut marks: Marks,
     dim: usize,
 ) -> Result<EditsRead, Refusal>
     ensures { EditsTaken job.now at dim complex marks result }
 {
-    let v = complex.v;
-    let mut edges = complex.edges;
-    let mut triangles = complex.triangles;
-    let mut tetrahedra = complex.tetrahedra;
     let mut left = EditsRead::MOST;
     while at < job.len() {
         let read = read_edit(job, at, left)?;
@@ -156,31 +152,28 @@ pub fn read_edits(
         let new = edit.new;
         // a seen position past the limit is past every count: what stands here does not matter then
         let rank = lists::least(seen, SimplexList::LIMIT - 1);
-        let edge = edges.items[rank];
-        let triangle = triangles.items[rank];
-        let tetrahedron = tetrahedra.items[rank];
         let view = view_of(
             kind,
             View {
-                count: edges.count,
-                there: edge,
+                count: complex.edges.count,
+                there: complex.edges.items[rank],
             },
             View {
-                count: triangles.count,
-                there: triangle,
+                count: complex.triangles.count,
+                there: complex.triangles.items[rank],
             },
             View {
-                count: tetrahedra.count,
-                there: tetrahedron,
+                count: complex.tetrahedra.count,
+                there: complex.tetrahedra.items[rank],
             },
         );
         judge(at, edit, view)?;
         if kind == SimplexList::EDGES as usize {
-            edges = edges.moved(seen, new);
+            complex.edges = complex.edges.moved(seen, new);
         } else if kind == SimplexList::TRIANGLES as usize {
-            triangles = triangles.moved(seen, new);
+            complex.triangles = complex.triangles.moved(seen, new);
         } else {
-            tetrahedra = tetrahedra.moved(seen, new);
+            complex.tetrahedra = complex.tetrahedra.moved(seen, new);
         }
         at = read.next;
         left -= 1;
@@ -188,13 +181,5 @@ pub fn read_edits(
             marks = marks.moved(seen, new);
         }
     }
-    Ok(EditsRead {
-        complex: Complex {
-            v,
-            edges,
-            triangles,
-            tetrahedra,
-        },
-        marks,
-    })
+    Ok(EditsRead { complex, marks })
 }

@@ -1,7 +1,7 @@
 -- What each stage's verdict comes to: a refusal is the whole reading's, and otherwise the rest of the definition follows.
 use Prim.Native.Nat.{ℕ, ◌-◌, ◌≤◌, ◌<◌}
 use native.Mathlib.Numerals.{sub-one}
-use mathlib.Core.Path.{◌≡◌, refl, sym, ◌∙◌, ap, subst, fun_ext}
+use mathlib.Core.Path.{◌≡◌, refl, sym, ◌∙◌, ap, ap₂, subst, subst₂, fun_ext}
 use mathlib.Core.Bool.{false, false≢true}
 use mathlib.Core.List.{List, []}
 use native.Mathlib.Omega.{arith}
@@ -31,14 +31,14 @@ use Rattle.lookup.specs.NumberedLaws.{none_in}
 use Rattle.reading_lists.specs.Items.{FacesIn}
 use Rattle.stages.specs.Meaning.{NothingRead}
 use Rattle.stages.specs.declared.ListRead.{ListRead}
-use Rattle.complexes.specs.Meaning.{job_of, complex_of, Marked}
-use Rattle.complexes.specs.declared.Complex.{Complex}
+use Rattle.complexes.specs.Meaning.{job_of, Marked}
 use Rattle.lent_lists.specs.Held.{complex_in, Held, EditsHeld}
 use Rattle.lent_lists.specs.declared.Counts.{Counts}
 use Rattle.lent_lists.specs.declared.Edited.{Edited}
+use Rattle.lists.specs.declared.Marks.{Marks}
 use Rattle.chain_stage.specs.Meaning.{ChainStageRead}
 use Rattle.chain_stage.specs.declared.ChainStage.{ChainStage}
-use Rattle.jobs.specs.Meaning.{Outcome, SoundHead, ListSound, ListHeld, Lists, read_lists, lists_in, ListsTold, job_in, Unedited, Told}
+use Rattle.jobs.specs.Meaning.{Outcome, SoundHead, ListSound, ListHeld, Lists, read_lists, lists_in, ListsTold, job_in, Unedited, Told, ByValue}
 use Rattle.complexes.specs.declared.Job.{Job}
 use Rattle.jobs.specs.declared.NumbersRead.{NumbersRead}
 use Rattle.jobs.specs.declared.ListsRead.{ListsRead}
@@ -47,6 +47,16 @@ use Rattle.jobs.specs.declared.ListsRead.{ListsRead}
 pub unedited-refused : {r : Reading reader.Job} {b e_keys t_keys s_keys t_sides s_sides : List ℕ} (e : Refusal) → r ≡ refused_by e
     → Unedited r b e_keys t_keys s_keys t_sides s_sides (Err e)
 unedited-refused e is = record {
+  set = λ s. false;
+  is = is;
+  held = λ j f. absurd (not_read f);
+  marks = λ j f. absurd (not_read f);
+  head = λ j f. absurd (not_read f);
+}
+
+pub told-refused : {r : Reading reader.Job} {e_keys t_keys s_keys t_sides s_sides : List ℕ} (e : Refusal) → r ≡ refused_by e
+    → Told r e_keys t_keys s_keys t_sides s_sides (Err e)
+told-refused e is = record {
   set = λ s. false;
   is = is;
   held = λ j f. absurd (not_read f);
@@ -71,22 +81,21 @@ outcome-refused e is = record {
 }
 
 pub outcome-fine : {r : Reading reader.Job} {e_keys t_keys s_keys t_sides s_sides : List ℕ} {read : Result NumbersRead Refusal} {j : NumbersRead}
-    → Told r e_keys t_keys s_keys t_sides s_sides read → (X : Complex) → read ≡ Ok j
-    → complex_of X ≡ complex_in j.head.v j.counts e_keys t_keys s_keys
-    → Outcome r (Ok (record { head = j.head; complex = X; marks = j.marks }))
-outcome-fine {r} {e_keys} {t_keys = t_keys} {s_keys = s_keys} {j = j} told X fine made = record {
+    → Told r e_keys t_keys s_keys t_sides s_sides read → read ≡ Ok j → (k : Job) → ByValue j e_keys t_keys s_keys k → Outcome r (Ok k)
+outcome-fine {r} {e_keys} {t_keys = t_keys} {s_keys = s_keys} {j = j} told fine k by = record {
   set = told.set;
-  is = told.is ∙ ap (reading_of (λ j. job_in j e_keys t_keys s_keys told.set)) fine
-      ∙ ap (λ (Y : format.Complex). accepted (asking Y)) (sym made);
-  marks = λ k f.
-      subst (λ (x : Job). Marked x.marks.on (rows (job_of x told.set)) told.set) (same_read f)
-      (subst (λ (Y : format.Complex). Marked j.marks.on (rows (asking Y)) told.set) (sym made) (told.marks j fine));
-  head = λ k f. subst (λ (x : Job). SoundHead x.head) (same_read f) (told.head j fine);
-  v = λ k f. subst (λ (x : Job). x.head.v ≡ x.complex.v) (same_read f) (ap (λ (Y : format.Complex). Y.v) (sym made));
+  is = told.is ∙ ap (reading_of (λ j. job_in j e_keys t_keys s_keys told.set)) fine ∙ ap accepted (sym same);
+  marks = λ x f.
+      subst (λ (y : Job). Marked y.marks.on (rows (job_of y told.set)) told.set) (same_read f)
+      (subst₂ (λ (m : Marks) (y : reader.Job). Marked m.on (rows y) told.set) (sym by.marks) (sym same) (told.marks j fine));
+  head = λ x f. subst SoundHead (sym by.head ∙ ap (λ (y : Job). y.head) (same_read f)) (told.head j fine);
+  v = λ x f.
+      subst (λ (y : Job). y.head.v ≡ y.complex.v) (same_read f)
+      (ap (λ (h : Head). h.v) by.head ∙ ap (λ (Y : format.Complex). Y.v) (sym by.complex));
 }
   where
-    asking : format.Complex → reader.Job
-    asking Y = record { question = question_of j.head.question; d = j.head.d; complex = Y; chain = told.set }
+    same : job_of k told.set ≡ job_in j e_keys t_keys s_keys told.set
+    same = ap₂ (λ (h : Head) (Y : format.Complex). record { question = question_of h.question; d = h.d; complex = Y; chain = told.set }) by.head by.complex
 
 pub list-known : (b : List ℕ) (at kind v : ℕ) (faces : List Simplex) (l : Listing) → 0 < kind → read_list small b at kind v faces ≡ accepted l → ListSound kind v faces l.list
 list-known b at kind v faces l positive e =

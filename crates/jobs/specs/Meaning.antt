@@ -11,7 +11,7 @@ use Rattle.format.specs.Sound.{SoundList, SoundJob}
 use Rattle.refusals.specs.Readings.{reading_of}
 use Rattle.refusals.specs.declared.Refusal.{Refusal}
 use Rattle.heads.specs.declared.Head.{Head}
-use Rattle.complexes.specs.Meaning.{job_of, Marked}
+use Rattle.complexes.specs.Meaning.{complex_of, job_of, Marked}
 use Rattle.complexes.specs.declared.Job.{Job}
 use Rattle.lookup.specs.Indexed.{Keyed, Indexed}
 use Rattle.lookup.specs.Numbered.{simplices_in}
@@ -60,6 +60,12 @@ pub record Told (r : Reading format.Job) (e_keys t_keys s_keys t_sides s_sides :
   pub held : (j : NumbersRead) → read ≡ Ok j → Held j.head.v j.counts e_keys t_keys s_keys t_sides s_sides
   pub marks : (j : NumbersRead) → read ≡ Ok j → Marked j.marks.on (rows (job_in j e_keys t_keys s_keys set)) set
   pub head : (j : NumbersRead) → read ≡ Ok j → SoundHead j.head
+
+-- a job by value is the one that lent arrays hold
+pub record ByValue (read : NumbersRead) (e_keys t_keys s_keys : List ℕ) (j : Job) : Type 0 where
+  pub head : j.head ≡ read.head
+  pub complex : complex_of j.complex ≡ complex_in read.head.v read.counts e_keys t_keys s_keys
+  pub marks : j.marks ≡ read.marks
 
 -- a job whose edits stand from a place on
 abbrev pub with_edits : List ℕ → (at : ℕ) → format.Job → Reading format.Job

@@ -14,8 +14,8 @@ ghost use Rattle.lookup.specs.Numbered.{simplices_in};
 ghost use Rattle.reading_lists.specs.Items.{FacesIn};
 ghost use Rattle.stages.specs.Meaning.{RoomAt};
 ghost use Rattle.heads.specs.Meaning.{head_of};
-ghost use Rattle.lent_lists.specs.Held.{complex_in, Held};
-ghost use Rattle.jobs.specs.Meaning.{Outcome, SoundHead, FileRoom, SizesTold, ListHeld, ListsTold, Unedited, Told};
+ghost use Rattle.lent_lists.specs.Held.{complex_in, Roomy, Held};
+ghost use Rattle.jobs.specs.Meaning.{Outcome, SoundHead, FileRoom, SizesTold, ListHeld, ListsTold, Unedited, Told, ByValue};
 
 use complexes::Job;
 use heads::Head;
@@ -321,7 +321,36 @@ pub fn take_edits(
     })
 }
 
-// Reads a job file, any bytes of any length.
+// Reads a job file, any bytes of any length, and leaves its lists in the lent arrays, as they stand after the edits.
+pub fn read_numbers(
+    job: &[u8],
+    e_keys: &mut [u64],
+    t_keys: &mut [u64],
+    s_keys: &mut [u64],
+    t_sides: &mut [u64],
+    s_sides: &mut [u64],
+) -> Result<NumbersRead, Refusal>
+    requires { FileRoom job.now 10 e_keys.old t_keys.old s_keys.old t_sides.old s_sides.old }
+    ensures { Told (reading small job.now) e_keys.new t_keys.new s_keys.new t_sides.new s_sides.new result }
+{
+    let unedited = read_unedited(job, e_keys, t_keys, s_keys, t_sides, s_sides)?;
+    take_edits(job, unedited, e_keys, t_keys, s_keys, t_sides, s_sides)
+}
+
+// A job whose lists lent arrays hold, by value.
+pub fn job_by_value(read: NumbersRead, e_keys: &[u64], t_keys: &[u64], s_keys: &[u64]) -> Job
+    requires { Roomy read.counts e_keys.now t_keys.now s_keys.now }
+    ensures { ByValue read e_keys.now t_keys.now s_keys.now result }
+{
+    let complex = lent_lists::complex_of(read.head.v, read.counts, e_keys, t_keys, s_keys);
+    Job {
+        head: read.head,
+        complex,
+        marks: read.marks,
+    }
+}
+
+// Reads a job file, any bytes of any length, by value.
 pub fn read_job(job: &[u8]) -> Result<Job, Refusal>
     ensures { Outcome (reading small job.now) result }
 {
@@ -330,7 +359,7 @@ pub fn read_job(job: &[u8]) -> Result<Job, Refusal>
     let mut s_keys = [0u64; SimplexList::LIMIT];
     let mut t_sides = [0u64; SimplexList::LIMIT];
     let mut s_sides = [0u64; SimplexList::LIMIT];
-    let unedited = read_unedited(
+    let read = read_numbers(
         job,
         &mut e_keys,
         &mut t_keys,
@@ -338,22 +367,5 @@ pub fn read_job(job: &[u8]) -> Result<Job, Refusal>
         &mut t_sides,
         &mut s_sides,
     )?;
-    let read = take_edits(
-        job,
-        unedited,
-        &mut e_keys,
-        &mut t_keys,
-        &mut s_keys,
-        &mut t_sides,
-        &mut s_sides,
-    )?;
-    let head = read.head;
-    let counts = read.counts;
-    let marks = read.marks;
-    let complex = lent_lists::complex_of(head.v, counts, &e_keys, &t_keys, &s_keys);
-    Ok(Job {
-        head,
-        complex,
-        marks,
-    })
+    Ok(job_by_value(read, &e_keys, &t_keys, &s_keys))
 }

@@ -77,15 +77,15 @@ pub fn complex_of(
 // Puts a complex into the arrays: the numbers of its edges (e), triangles (t) and tetrahedra (s), and the sides of the latter.
 // How many sides are found is not looked at: no simplex of a sound complex lacks a facet.
 fn hold(
-    complex: Complex,
+    complex: &Complex,
     e_keys: &mut [u64],
     t_keys: &mut [u64],
     s_keys: &mut [u64],
     t_sides: &mut [u64],
     s_sides: &mut [u64],
 ) -> Counts
-    requires { Room (complex_of complex) e_keys.old t_keys.old s_keys.old t_sides.old s_sides.old }
-    ensures { HoldsNow (complex_of complex) result e_keys.new t_keys.new s_keys.new t_sides.new s_sides.new }
+    requires { Room (complex_of complex.now) e_keys.old t_keys.old s_keys.old t_sides.old s_sides.old }
+    ensures { HoldsNow (complex_of complex.now) result e_keys.new t_keys.new s_keys.new t_sides.new s_sides.new }
 {
     let mut e_first = [0u16; BUCKETS];
     let mut e_next = [0u16; SimplexList::LIMIT];
@@ -139,9 +139,8 @@ pub fn take_edits(
     }
     let complex = complex_of(v, counts, e_keys, t_keys, s_keys);
     let edited = edits::read_edits(job, at, complex, marks, dim)?;
-    let after = edited.complex;
     let marks_after = edited.marks;
-    let counts_after = hold(after, e_keys, t_keys, s_keys, t_sides, s_sides);
+    let counts_after = hold(&edited.complex, e_keys, t_keys, s_keys, t_sides, s_sides);
     Ok(Edited {
         counts: counts_after,
         marks: marks_after,

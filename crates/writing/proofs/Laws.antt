@@ -1,7 +1,7 @@
 -- What is written is the job's normal form. Why: a job that was read is sound, so the bytes that the writer puts out are
 -- the normal form, and their number is the sum of the records' lengths.
 use Prim.Native.Nat.{ℕ, ◌+◌, ◌*◌, ◌≤◌, ◌<◌}
-use mathlib.Core.Path.{◌≡◌, refl, sym, ◌∙◌, ap, subst}
+use mathlib.Core.Path.{◌≡◌, refl, sym, ◌∙◌, ap, ap₂, subst, subst₂}
 use mathlib.Core.Logic.{◌⊎◌, inl, inr}
 use mathlib.Core.List.{List, ◌++◌, map}
 use native.Mathlib.Omega.{arith}
@@ -12,7 +12,8 @@ use Rattle.format.specs.Reading.{accepted, reading, question_byte, question_of, 
 use Rattle.format.specs.Reading as reader
 use Rattle.format.specs.Answer.{rows, row_dimension}
 use Rattle.format.specs.Writing.{places_from, normal_form}
-use Rattle.format.specs.Sound.{small-consistent}
+use Rattle.format.specs.Sound.{SoundJob, small-consistent}
+use Rattle.format.specs.Simplex as format
 use Rattle.format.specs.Normal.{places-few}
 use Rattle.format.specs.RoundTrip.{length-normal_form, normal-fits, chosen-fits}
 use Rattle.format.specs.Promise.{two_numbers, WrittenJob, too_short, written, Written, WritePromise}
@@ -20,16 +21,20 @@ use Rattle.lists.specs.Meaning.{simplices_of}
 use Rattle.std.specs.Prelude.{Result}
 use Rattle.std.proofs.Common.{Ok, Err}
 use Rattle.refusals.specs.Meaning.{number_of}
-use Rattle.refusals.specs.Readings.{refused_by, reading_of}
 use Rattle.refusals.specs.declared.Refusal.{Refusal}
-use Rattle.complexes.specs.Meaning.{job_of, list_of}
+use Rattle.complexes.specs.Meaning.{job_of, list_of, Marked}
 use Rattle.complexes.specs.declared.Job.{Job}
-use Rattle.jobs.specs.Meaning.{Outcome, Readable}
-use Rattle.jobs.specs.Known.{read-accepted, read_readable}
+use Rattle.format.proofs.Accepted.{accepted-sound}
+use Rattle.heads.specs.declared.Head.{Head}
+use Rattle.lists.specs.declared.Marks.{Marks}
+use Rattle.lent_lists.specs.HeldLaws.{held-roomy}
+use Rattle.jobs.specs.Meaning.{SoundHead, Readable, job_in, Told, ByValue}
+use Rattle.jobs.specs.Known.{told-refusal, told-accepted, told_asking}
+use Rattle.jobs.specs.declared.NumbersRead.{NumbersRead}
 use Rattle.writer.specs.Meaning.{Put, job_bytes}
 use Rattle.writer.specs.Splice.{splice}
 use Rattle.writer.specs.Normal.{normal-bytes}
-use Rattle.writing.specs.Meaning.{chosen_from}
+use Rattle.writing.specs.Meaning.{chosen_from, Writable}
 
 -- a question that was accepted is written as the byte that it was read from
 asked-byte : (q : ℕ) → (q ≡ 1) ⊎ (q ≡ 2) → question_byte (question_of q) ≡ q
@@ -78,17 +83,33 @@ module _ (job : Job) (k : Readable job) (n : ℕ) (all : n ≡ length (chosen_fr
       written (omega (arith, ap length bytes-normal)) (omega (arith, ap length bytes-normal))
       (put.lent ∙ ap (splice out 0) bytes-normal ∙ ap (λ i. normal_form meant ++ drop i out) (zero-add (length (normal_form meant))))
 
--- A REFUSED JOB.
-module _ (b : List ℕ) {r : Result Job Refusal} (o : Outcome (reading small b) r) where
-  pub read-refused : (e : Refusal) → r ≡ Err e → reading small b ≡ refused_by e
-  read-refused e v = o.is ∙ ap (reading_of (λ j. job_of j o.set)) v
+-- A JOB IN LENT ARRAYS, by value, is readable.
+module _ {j : NumbersRead} {e_keys t_keys s_keys : List ℕ} (w : Writable j e_keys t_keys s_keys) {k : Job} (by : ByValue j e_keys t_keys s_keys k) where
+  pub same-job : job_of k w.set ≡ job_in j e_keys t_keys s_keys w.set
+  same-job = ap₂ (λ (h : Head) (Y : format.Complex). record { question = question_of h.question; d = h.d; complex = Y; chain = w.set }) by.head by.complex
 
+  unfoldable pub by_value : Readable k
+  by_value = record {
+    set = w.set;
+    sound = subst (SoundJob small) (sym same-job) w.sound;
+    head = subst SoundHead (sym by.head) w.head;
+    v = ap (λ (h : Head). h.v) by.head ∙ ap (λ (Y : format.Complex). Y.v) (sym by.complex);
+    marks = subst₂ (λ (m : Marks) (y : reader.Job). Marked m.on (rows y) w.set) (sym by.marks) (sym same-job) w.marks;
+  }
+
+-- THE FILE, read into lent arrays.
+module _ (b : List ℕ) {e_keys t_keys s_keys t_sides s_sides : List ℕ} {r : Result NumbersRead Refusal}
+    (o : Told (reading small b) e_keys t_keys s_keys t_sides s_sides r) where
   pub write-refused : (out : List ℕ) (e : Refusal) (result : ℕ) → r ≡ Err e → result ≡ two_numbers (number_of e.reason) e.place → WritePromise small b out result out
-  write-refused out e result v is = subst (λ x. Written x out result out) (sym (read-refused e v)) (is, refl)
+  write-refused out e result v is = subst (λ x. Written x out result out) (sym (told-refusal o v)) (is, refl)
 
-  pub write-accepted : (out out' : List ℕ) (result : ℕ) (j : Job) → r ≡ Ok j →
-      ((k : Readable j) → WrittenJob (job_of j k.set) out result out') → WritePromise small b out result out'
-  unfolding read_readable
+  unfoldable pub writable : (j : NumbersRead) → r ≡ Ok j → Writable j e_keys t_keys s_keys
+  writable j v =
+      let a = told_asking b j r o v in
+      record { set = o.set; sound = accepted-sound small b (job_in j e_keys t_keys s_keys o.set) (told-accepted b j r o v); head = a.head; room = held-roomy a.held; marks = o.marks j v }
+
+  pub write-accepted : (out out' : List ℕ) (result : ℕ) (j : NumbersRead) → r ≡ Ok j →
+      ((k : Writable j e_keys t_keys s_keys) → WrittenJob (job_in j e_keys t_keys s_keys k.set) out result out') → WritePromise small b out result out'
+  unfolding writable
   write-accepted out out' result j v done =
-      let known : accepted (job_of j o.set) ≡ reading small b = sym (read-accepted b j r o v) in
-      subst (λ x. Written x out result out') known (done (read_readable b j r o v))
+      subst (λ x. Written x out result out') (sym (told-accepted b j r o v)) (done (writable j v))

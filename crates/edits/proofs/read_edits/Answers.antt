@@ -1,6 +1,6 @@
 -- `edits::read_edits` meets its contract: the loop keeps `Taking`, and each return is one of its ends.
 use Prim.Native.Nat.{◌-◌}
-use mathlib.Core.Path.{◌≡◌, refl, subst}
+use mathlib.Core.Path.{◌≡◌, refl, sym, subst}
 use Rattle.refusals.specs.Readings.{handed_up}
 use native.Mathlib.Omega.{arith}
 use lib.ListN.{length}
@@ -8,7 +8,6 @@ use Rattle.format.specs.Reading.{moved, list_of_kind}
 use Rattle.format.specs.EditLaws.{MovedWithin}
 use Rattle.lists.specs.Items.{length-mapped}
 use Rattle.lists.specs.declared.Marks.{Marks}
-use Rattle.lists.specs.declared.SimplexList.{SimplexList}
 use Rattle.complexes.specs.Meaning.{complex_of}
 use Rattle.complexes.specs.declared.Complex.{Complex}
 use Rattle.edits.specs.Meaning.{EditTaken, MarksStay}
@@ -38,20 +37,10 @@ returns-in_err-read c =
     rw (handed_up c.from_residual.result c.from_residual.ensures.1)
     (record-refuses c.loop-at.invariant c.read_edit.ensures _ c.in_err-read.was)
 
--- the complex as the loop has it
-abbrev present : Complex → SimplexList → SimplexList → SimplexList → Complex
-present read edges triangles tetrahedra =
-    record {
-      v = read.v;
-      edges = edges;
-      triangles = triangles;
-      tetrahedra = tetrahedra;
-    }
-
 -- what the turn has come to with the judgement: the view is of the list that the edit names
 turn : (c : After-judge)
     →
-    Turn c.args.job.now c.loop-at.left c.loop-at.at (present c.args.complex c.loop-at.edges c.loop-at.triangles c.loop-at.tetrahedra) c.in_ok-read.read c.judge.result
+    Turn c.args.job.now c.loop-at.left c.loop-at.at c.loop-at.complex c.in_ok-read.read c.judge.result
 turn c =
     let full = c.loop-at.invariant.full in
     let one = c.read_edit.ensures in
@@ -60,7 +49,7 @@ turn c =
     record {
       one = subst (EditTaken c.args.job.now c.loop-at.left c.loop-at.at) fine one;
       view = c.view_of-view.result;
-      views = c.view_of-view.ensures.views (complex_of (present c.args.complex c.loop-at.edges c.loop-at.triangles c.loop-at.tetrahedra)) c.in_ok-read.read.edit.seen (one.least _ fine) (one.most _ fine) (viewed _ _ _ full.edges rank) (viewed _ _ _ full.triangles rank) (viewed _ _ _ full.tetrahedra rank);
+      views = c.view_of-view.ensures.views (complex_of c.loop-at.complex) c.in_ok-read.read.edit.seen (one.least _ fine) (one.most _ fine) (viewed _ _ _ full.edges rank) (viewed _ _ _ full.triangles rank) (viewed _ _ _ full.tetrahedra rank);
       judged = c.judge.ensures;
     }
 
@@ -73,25 +62,26 @@ returns-in_err-judge c =
 -- both positions are in the list
 within : (c : In_ok-judge)
     →
-    let list = list_of_kind c.in_ok-read.read.edit.kind (complex_of (present c.args.complex c.loop-at.edges c.loop-at.triangles c.loop-at.tetrahedra)) in
+    let list = list_of_kind c.in_ok-read.read.edit.kind (complex_of c.loop-at.complex) in
     MovedWithin c.in_ok-read.read.edit.seen c.in_ok-read.read.edit.new list (moved c.in_ok-read.read.edit.seen c.in_ok-read.read.edit.new list)
 within c = moves-within (turn (record { before = c.before.before.before; type_inv = record { job = c.type_inv.job } })) c.in_ok-judge.was
 
 -- the complex with the list moved
 abbrev changed : Joined-kind → Complex
-changed c =
-    record { v = (present c.args.complex c.loop-at.edges c.loop-at.triangles c.loop-at.tetrahedra).v; edges = c.if-kind.edges; triangles = c.if-kind.triangles; tetrahedra = c.if-kind.tetrahedra }
+changed c = c.if-kind.complex
 
 replaced : (c : Joined-kind)
     →
-    Replaced c.in_ok-read.read.edit.kind c.in_ok-read.read.edit.seen c.in_ok-read.read.edit.new (present c.args.complex c.loop-at.edges c.loop-at.triangles c.loop-at.tetrahedra) (changed c)
+    Replaced c.in_ok-read.read.edit.kind c.in_ok-read.read.edit.seen c.in_ok-read.read.edit.new c.loop-at.complex (changed c)
 replaced c =
     let j = turn (record { before = c.before.before.before.before; type_inv = record { job = c.type_inv.job } }) in
     let below = (within (record { before = c.before.before; type_inv = record { job = c.type_inv.job } })).new_below in
     elim c.if-kind.branch [
-      | then-kind w ↦ rw (w.edges-is, w.triangles-is, w.tetrahedra-is) (edges-moved (present c.args.complex c.loop-at.edges c.loop-at.triangles c.loop-at.tetrahedra) w.moved-edges.result below w.if-kind.true w.moved-edges.ensures)
-      | else-kind+then-kind-2 w ↦ rw (w.edges-is, w.triangles-is, w.tetrahedra-is) (triangles-moved (present c.args.complex c.loop-at.edges c.loop-at.triangles c.loop-at.tetrahedra) w.moved-triangles.result below w.if-kind-2.true w.moved-triangles.ensures)
-      | else-kind+else-kind-2 w ↦ rw (w.edges-is, w.triangles-is, w.tetrahedra-is) (tetrahedra-moved (present c.args.complex c.loop-at.edges c.loop-at.triangles c.loop-at.tetrahedra) w.moved-tetrahedra.result below (omega (arith, w.if-kind.false, w.if-kind-2.false, j.one.least _ refl, j.one.most _ refl)) w.moved-tetrahedra.ensures)
+      | then-kind w ↦ subst (Replaced _ _ _ _) (sym w.complex-is) (edges-moved c.loop-at.complex w.moved-complex.result below w.if-kind.true w.moved-complex.ensures)
+      | else-kind+then-kind-2 w ↦
+          subst (Replaced _ _ _ _) (sym w.complex-is) (triangles-moved c.loop-at.complex w.moved-complex-then-kind-2.result below w.if-kind-2.true w.moved-complex-then-kind-2.ensures)
+      | else-kind+else-kind-2 w ↦
+          subst (Replaced _ _ _ _) (sym w.complex-is) (tetrahedra-moved c.loop-at.complex w.moved-complex-else-kind-2.result below (omega (arith, w.if-kind.false, w.if-kind-2.false, j.one.least _ refl, j.one.most _ refl)) w.moved-complex-else-kind-2.ensures)
     ]
 
 full-after : (c : Joined-kind)
@@ -100,16 +90,22 @@ full-after : (c : Joined-kind)
 full-after c =
     let full = c.loop-at.invariant.full in
     elim c.if-kind.branch [
-      | then-kind w ↦ rw (w.edges-is, w.triangles-is, w.tetrahedra-is) (record { edges = search (rules, length-mapped); triangles = full.triangles; tetrahedra = full.tetrahedra; all_marks = full.all_marks })
-      | else-kind+then-kind-2 w ↦ rw (w.edges-is, w.triangles-is, w.tetrahedra-is) (record { edges = full.edges; triangles = search (rules, length-mapped); tetrahedra = full.tetrahedra; all_marks = full.all_marks })
-      | else-kind+else-kind-2 w ↦ rw (w.edges-is, w.triangles-is, w.tetrahedra-is) (record { edges = full.edges; triangles = full.triangles; tetrahedra = search (rules, length-mapped); all_marks = full.all_marks })
+      | then-kind w ↦
+          subst (λ (x : Complex). Full x c.loop-at.marks) (sym w.complex-is)
+          (record { edges = search (rules, length-mapped); triangles = full.triangles; tetrahedra = full.tetrahedra; all_marks = full.all_marks })
+      | else-kind+then-kind-2 w ↦
+          subst (λ (x : Complex). Full x c.loop-at.marks) (sym w.complex-is)
+          (record { edges = full.edges; triangles = search (rules, length-mapped); tetrahedra = full.tetrahedra; all_marks = full.all_marks })
+      | else-kind+else-kind-2 w ↦
+          subst (λ (x : Complex). Full x c.loop-at.marks) (sym w.complex-is)
+          (record { edges = full.edges; triangles = full.triangles; tetrahedra = search (rules, length-mapped); all_marks = full.all_marks })
     ]
 
 -- the loop goes on with the list moved, and with any marks that hold the same set
 goes_on : (c : Joined-kind) (later : Marks)
     →
     let a = c.args in
-    MarksStay a.dim (present c.args.complex c.loop-at.edges c.loop-at.triangles c.loop-at.tetrahedra) c.loop-at.marks (changed c) later
+    MarksStay a.dim c.loop-at.complex c.loop-at.marks (changed c) later
     → length later.on ≡ 512
     → Taking a.job.now a.at a.dim a.complex a.marks c.in_ok-read.read.next (changed c) later (c.loop-at.left - 1)
 goes_on c later stays all =

@@ -4,7 +4,7 @@ use Rattle.edits.proofs.read_edits.Given as goal
 
 abbrev pub invariant-loop-at : goal.invariant-loop-at
 invariant-loop-at l =
-    Taking l.job l.initial.at l.dim l.fn.complex l.initial.marks l.at (record { v = l.v; edges = l.edges; triangles = l.triangles; tetrahedra = l.tetrahedra }) l.marks l.left
+    Taking l.job l.initial.at l.dim l.fn.complex l.fn.marks l.at l.complex l.marks l.left
 
 abbrev pub decreases-loop-at : goal.decreases-loop-at
 decreases-loop-at l =

@@ -36,7 +36,7 @@ shape_of-s_keys c = c.index-tetrahedra.auto.keys
 
 pub returns : goal.returns
 returns c =
-    holding c.args.complex (record {
+    holding c.args.complex.now (record {
       edges = omega (arith, c.requires.edges, c.index-edges.auto.keys);
       triangles = omega (arith, c.requires.triangles, c.index-triangles.auto.keys);
       tetrahedra = omega (arith, c.requires.tetrahedra, c.index-tetrahedra.auto.keys);
