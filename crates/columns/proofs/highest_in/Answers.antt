@@ -23,5 +23,6 @@ pub returns : goal.returns
 returns c =
     some-held c.args.word c.args.left c.requires c.if-left-eq0.false
     c.if-word-last-eq1.false
-    c.highest_bit.result
-    (c.highest_bit.ensures (omega (arith, c.if-below-eq0.false)))
+    c.ilog2.result
+    c.ilog2.ensures.power_le
+    c.ilog2.ensures.next_power_gt
