@@ -13,7 +13,6 @@ ghost use Rattle.answering.specs.Meaning.{Answers, AnswersFile, of_dimension};
 
 use jobs::NumbersRead;
 use lists::{SimplexList, Verdict};
-use slots::Filled;
 
 // Of three lists' numbers, or sides, those of a dimension from 1 on.
 fn numbers_of<'a>(
@@ -101,19 +100,16 @@ fn answer_fill<'a>(
     let sides = numbers_of(dim + 1, e_keys, t_sides, s_sides);
     let mut cur = [0u8; 128];
     let filled = solver::fill(work, &mut cur, m, sides, n, dim + 2, marks, 64);
-    match filled {
-        Filled::Found => {
-            let cols = numbers_of(dim + 1, e_keys, t_keys, s_keys);
-            let half = 64;
-            answers::put_chain(out, head.d, cols, n, dim + 2, &cur[half..])
+    if filled {
+        let cols = numbers_of(dim + 1, e_keys, t_keys, s_keys);
+        let half = 64;
+        answers::put_chain(out, head.d, cols, n, dim + 2, &cur[half..])
+    } else {
+        let closed = rim_closed(read, dim, e_keys, t_keys, s_keys, t_sides, s_sides);
+        if !closed {
+            return answers::put_refusal(out, Verdict::RIM_OPEN, 0);
         }
-        Filled::None => {
-            let closed = rim_closed(read, dim, e_keys, t_keys, s_keys, t_sides, s_sides);
-            if !closed {
-                return answers::put_refusal(out, Verdict::RIM_OPEN, 0);
-            }
-            answers::put_refusal(out, Verdict::NO_FILLING, 0)
-        }
+        answers::put_refusal(out, Verdict::NO_FILLING, 0)
     }
 }
 

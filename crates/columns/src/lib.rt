@@ -4,7 +4,7 @@
 // the memory need not be touched before the first column.
 #![tactic(auto)]
 
-ghost use Rattle.std.specs.Prelude.{◌≡◌, ◌+◌, ◌*◌, ◌≤◌, ◌<◌, true, length, set, take, replicate};
+ghost use Rattle.std.specs.Prelude.{◌≡◌, ◌+◌, ◌*◌, ◌≤◌, ◌<◌, length, take, replicate};
 ghost use Rattle.columns.specs.Column.{bit, bit_at, chain_of, xor_bytes, flipped};
 ghost use Rattle.columns.specs.Slot.{room_of, slot, store_slot};
 ghost use Rattle.columns.specs.Word.{WordAt};

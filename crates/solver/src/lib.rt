@@ -6,16 +6,16 @@
 // not read, whatever its bytes are, so the work memory is not touched before the first column.
 #![tactic(auto)]
 
-ghost use Rattle.std.specs.Prelude.{◌≡◌, true, false, List, ◌*◌, ◌≤◌, ◌<◌, max, length, replicate};
+ghost use Rattle.std.specs.Prelude.{◌≡◌, true, false, List, ◌*◌, ◌≤◌, ◌<◌, length, replicate};
 ghost use Rattle.columns.specs.Slot.{room_of, chain_r, chain_v};
 ghost use Rattle.format.specs.Simplex.{Simplex, rising_from};
 ghost use Rattle.lookup.specs.Sides.{Sides};
 ghost use Rattle.solver.specs.Columns.{MatrixIn, SidesWithin, AddsBoundary, HighestSide, WritesColumn, PutsNext, Loads, Marked};
 ghost use Rattle.solver.specs.Solved.{RimTold, FillTold, ClassTold};
 
-use columns::{Highest, clear, flip, next_down};
+use columns::{clear, flip, next_down};
 use lists::{Marks, SimplexList};
-use slots::{Filled, class_in, fill_in, insert_column};
+use slots::{class_in, fill_in, insert_column};
 
 // Adds the boundary of the simplex of `size` vertices that has these sides to the chain of rows in hand. A simplex
 // has four vertices at most, so its facets are taken off one after the other, which costs less than a loop over `size`.
@@ -40,13 +40,6 @@ pub fn add_boundary(cur: &mut [u8], sides: u64, size: usize)
     flip(cur, (rest / 65536 % 65536) as usize);
 }
 
-// The higher of two ranks.
-fn higher(a: usize, b: usize) -> usize
-    ensures { result ≡ max a b }
-{
-    if a < b { b } else { a }
-}
-
 // The highest of the sides of a simplex of `size` vertices. No two facets of a simplex are the same, so no
 // other facet takes that row out of the boundary again: it is the highest row that the boundary holds.
 fn highest_side(sides: u64, size: usize) -> usize
@@ -56,17 +49,15 @@ fn highest_side(sides: u64, size: usize) -> usize
     if size <= 1 {
         return top;
     }
-    let others = sides / 65536;
-    let top = higher(top, (others % 65536) as usize);
+    let top = top.max((sides / 65536 % 65536) as usize);
     if size <= 2 {
         return top;
     }
-    let others = others / 65536;
-    let top = higher(top, (others % 65536) as usize);
+    let top = top.max((sides / 65536 / 65536 % 65536) as usize);
     if size <= 3 {
         return top;
     }
-    higher(top, (others / 65536 % 65536) as usize)
+    top.max((sides / 65536 / 65536 / 65536 % 65536) as usize)
 }
 
 // Writes the column of a simplex over a pair of columns: its boundary, and its rank alone, the bit `own` of the pair.
@@ -136,10 +127,7 @@ pub fn load(
     requires le_h { 8 ≤ h }
     ensures { (k : MatrixIn h size m sides.now n) → Loads h k.rows k.high m work.new taken.new }
 {
-    let mut i = 0;
-    while i < n {
-        let rank = i;
-        i += 1;
+    for rank in 0..n {
         put_column(work, cur, taken, m, sides, n, size, h, rank);
     }
 }
@@ -151,12 +139,10 @@ pub fn mark(cur: &mut [u8], marks: Marks, m: usize)
     ensures { Marked m marks cur.old cur.new }
 {
     clear(cur);
-    let mut i = 0;
-    while i < m {
-        if marks.on[i] {
+    for (i, &on) in marks.on[..m].iter().enumerate() {
+        if on {
             flip(cur, i);
         }
-        i += 1;
     }
 }
 
@@ -177,22 +163,16 @@ pub fn rim_closed(
     ensures { (k : MatrixIn h size m sides.now n) → RimTold k.rows k.high marks result }
 {
     clear(cur);
-    let mut i = 0;
-    while i < n {
-        if marks.on[i] {
+    for (i, &on) in marks.on[..n].iter().enumerate() {
+        if on {
             add_boundary(cur, sides[i], size);
         }
-        i += 1;
     }
-    let found = next_down(cur, m);
-    match found {
-        Highest::At(_) => false,
-        Highest::Nothing => true,
-    }
+    next_down(cur, m).is_none()
 }
 
-// Fills the marked chain of rows by columns, the smallest way: where it answers `Found`, the filling is
-// the second half of `cur`.
+// Fills the marked chain of rows by columns, the smallest way, and says whether that can be: if so, the filling is the second
+// half of `cur`.
 pub fn fill(
     work: &mut [u8],
     cur: &mut [u8],
@@ -202,7 +182,7 @@ pub fn fill(
     size: usize,
     marks: Marks,
     h: usize,
-) -> Filled
+) -> bool
     requires matrix_in { MatrixIn h size m sides.now n }
     requires m_bound { m ≤ 512 }
     requires h_in_bounds { room_of h ≤ length work.old }
