@@ -59,12 +59,12 @@ overflow_add-dim c = omega (arith, small-dim (goal.at.overflow_add-dim c).Start)
 pub overflow_add-dim-2 : goal.overflow_add-dim-2
 overflow_add-dim-2 c = omega (arith, small-dim (goal.at.overflow_add-dim-2 c).Start)
 
-pub overflow_add-dim-3 : goal.overflow_add-dim-3
-overflow_add-dim-3 c = omega (arith, small-dim (goal.at.overflow_add-dim-3 c).Start)
+pub overflow_add-matrix : goal.overflow_add-matrix
+overflow_add-matrix c = omega (arith, small-dim (goal.at.overflow_add-matrix c).Start)
 
 pub fill-filled-requires : goal.fill-filled-requires
 fill-filled-requires c =
-    record { matrix_in = matrix-in c.requires.asking.held c.args.dim _ _ c.numbers_of-sides.ensures (small-dim (goal.at.fill-filled-requires c).Start) (m-is (goal.at.fill-filled-requires c).After-numbers_of-sides) (n-is (goal.at.fill-filled-requires c).After-numbers_of-sides); m_bound = few (goal.at.fill-filled-requires c).After-numbers_of-sides; h_in_bounds = omega (arith, room_small, c.requires.in_bounds_2); cur_len = refl; le_h = omega arith }
+    record { matrix_in = matrix-in c.requires.asking.held c.args.dim _ c.numbers_of-sides.ensures (small-dim (goal.at.fill-filled-requires c).Start) (m-is (goal.at.fill-filled-requires c).After-numbers_of-sides) (n-is (goal.at.fill-filled-requires c).After-numbers_of-sides) refl; rows_bound = few (goal.at.fill-filled-requires c).After-numbers_of-sides; h_in_bounds = omega (arith, room_small, c.requires.in_bounds_2); cur_len = refl; le_h = omega arith }
 
 pub overflow_add-dim-then-filled : goal.overflow_add-dim-then-filled
 overflow_add-dim-then-filled c = omega (arith, small-dim (goal.at.overflow_add-dim-then-filled c).Start)
@@ -95,7 +95,7 @@ returns-then-filled c = λ k.
     answers-patch k c.requires.dim_value c.requires.question_value _
     (patch-list (goal.at.returns-then-filled c).After-numbers_of-cols (small-dim (goal.at.returns-then-filled c).Start))
     (fill-says (c.fill-filled.ensures
-    (matrix-in c.requires.asking.held c.args.dim _ _ c.numbers_of-sides.ensures (small-dim (goal.at.returns-then-filled c).Start) (m-is (goal.at.returns-then-filled c).After-numbers_of-sides) (n-is (goal.at.returns-then-filled c).After-numbers_of-sides)))
+    (matrix-in c.requires.asking.held c.args.dim _ c.numbers_of-sides.ensures (small-dim (goal.at.returns-then-filled c).Start) (m-is (goal.at.returns-then-filled c).After-numbers_of-sides) (n-is (goal.at.returns-then-filled c).After-numbers_of-sides) refl))
     c.if-filled.true)
     c.put_chain.ensures
 
@@ -105,6 +105,6 @@ returns-else-not-closed c = λ k.
     answers-unfilled k c.requires.dim_value c.requires.question_value c.rim_closed-closed.ensures empty
     c.if-not-closed.false
     (fill-says (c.fill-filled.ensures
-    (matrix-in c.requires.asking.held c.args.dim _ _ c.numbers_of-sides.ensures (small-dim (goal.at.returns-else-not-closed c).Start) (m-is (goal.at.returns-else-not-closed c).After-numbers_of-sides) (n-is (goal.at.returns-else-not-closed c).After-numbers_of-sides)))
+    (matrix-in c.requires.asking.held c.args.dim _ c.numbers_of-sides.ensures (small-dim (goal.at.returns-else-not-closed c).Start) (m-is (goal.at.returns-else-not-closed c).After-numbers_of-sides) (n-is (goal.at.returns-else-not-closed c).After-numbers_of-sides) refl))
     c.if-filled.false)
     c.put_refusal-else-filled.ensures

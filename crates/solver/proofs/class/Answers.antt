@@ -6,7 +6,7 @@ use Rattle.solver.proofs.class.Goals as goal
 
 pub load-requires : goal.load-requires
 load-requires c =
-    record { matrix_in = c.requires.matrix_in; m_bound = c.requires.m_bound; h_in_bounds = c.requires.h_in_bounds; cur_len = c.requires.cur_len; taken_value = refl; le_h = c.requires.le_h }
+    record { matrix_in = c.requires.matrix_in; rows_bound = c.requires.rows_bound; h_in_bounds = c.requires.h_in_bounds; cur_len = c.requires.cur_len; taken_value = refl; le_h = c.requires.le_h }
 
 pub returns : goal.returns
 returns c = λ k.

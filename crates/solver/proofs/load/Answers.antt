@@ -24,14 +24,14 @@ module _ (p : At-loop-rank) where
   as_wide = (p.loop-rank.invariant p.requires.matrix_in).wide
 
   -- every row has its place in the array of the slots that are taken
-  all-rows : p.args.m ≤ length p.loop-rank.taken
+  all-rows : p.args.matrix.rows ≤ length p.loop-rank.taken
   all-rows =
       let long : length p.args.taken.now ≡ 512 = ap length p.requires.taken_value ∙ length-replicate 512 false in
-      omega (arith, p.requires.m_bound, as_wide, long)
+      omega (arith, p.requires.rows_bound, as_wide, long)
 
 pub put_column-requires : goal.put_column-requires
 put_column-requires c =
-    record { matrix_in = c.requires.matrix_in; rank_lt_n = omega (arith, c.loop-rank-test.true); m_in_bounds = all-rows (goal.at.put_column-requires c).At-loop-rank; h_in_bounds = subst (λ n. room_of c.args.h ≤ n) (sym (same-lengths (goal.at.put_column-requires c).At-loop-rank).0) c.requires.h_in_bounds; cur_len = (same-lengths (goal.at.put_column-requires c).At-loop-rank).1; le_h = c.requires.le_h }
+    record { matrix_in = c.requires.matrix_in; rank_bound = omega (arith, c.loop-rank-test.true); rows_in_bounds = all-rows (goal.at.put_column-requires c).At-loop-rank; h_in_bounds = subst (λ n. room_of c.args.h ≤ n) (sym (same-lengths (goal.at.put_column-requires c).At-loop-rank).0) c.requires.h_in_bounds; cur_len = (same-lengths (goal.at.put_column-requires c).At-loop-rank).1; le_h = c.requires.le_h }
 
 pub loop-rank-preserved : goal.loop-rank-preserved
 loop-rank-preserved c = λ k.

@@ -6,4 +6,4 @@ use Rattle.solver.proofs.load.Given as goal
 
 abbrev pub invariant-loop-rank : goal.invariant-loop-rank
 invariant-loop-rank l =
-    (k : MatrixIn l.h l.size l.m l.sides l.n) → Loading l.h k.rows k.high l.rank l.initial.work l.initial.taken l.work l.cur l.taken
+    (k : MatrixIn l.h l.matrix) → Loading l.h k.rows k.high l.rank l.initial.work l.initial.taken l.work l.cur l.taken

@@ -18,14 +18,14 @@ loop-i-init c = λ k.
     rimming-start _ _ _ _ (length c.args.cur.now) _ c.clear.ensures (c.clear.auto.bytes ∙ c.requires.cur_len)
 
 -- the row that is looked at is one of the n
-row_in : (c : In-loop-i) → c.loop-i.i < c.args.n
-row_in c = omega (arith, c.loop-i-test.true, length-take c.args.n c.args.marks.on)
+row_in : (c : In-loop-i) → c.loop-i.i < c.args.matrix.columns
+row_in c = omega (arith, c.loop-i-test.true, length-take c.args.matrix.columns c.args.marks.on)
 
 whole : (c : At-loop-i) → length c.loop-i.cur ≡ length c.args.cur.now
 whole c = (c.loop-i.invariant c.requires.matrix_in).whole ∙ sym c.requires.cur_len
 
-pub bounds-sides-i : goal.bounds-sides-i
-bounds-sides-i c = omega (arith, row_in (goal.at.bounds-sides-i c).In-loop-i, c.requires.matrix_in.room)
+pub bounds-matrix-i : goal.bounds-matrix-i
+bounds-matrix-i c = omega (arith, row_in (goal.at.bounds-matrix-i c).In-loop-i, c.requires.matrix_in.room)
 
 pub add_boundary-requires : goal.add_boundary-requires
 add_boundary-requires c =
@@ -37,7 +37,7 @@ loop-i-preserved c = λ k.
     let a = c.loop-i.invariant k in
     let row = row_in (goal.at.loop-i-preserved c).In-loop-i in
     let lt : c.loop-i.i < length k.high = omega (arith, row, k.count) in
-    let mark = sym (mark-at c.args.n c.loop-i.i c.args.marks.on c.loop-i-test.true) in
+    let mark = sym (mark-at c.args.matrix.columns c.loop-i.i c.args.marks.on c.loop-i-test.true) in
     elim c.if-on.branch [
       | then-on w ↦ rimming-add _ _ _ _ a lt (mark ∙ w.if-on.true) k.few_rows
           (w.add_boundary.ensures _ _ (k.wide _ row) k.some k.most (column-sides k row)) w.add_boundary.auto.cur w.cur-is
@@ -49,8 +49,8 @@ next_down-requires c =
     omega (arith, whole (goal.at.next_down-requires c).At-loop-i, c.requires.cur_len, c.requires.matrix_in.row_count, c.requires.matrix_in.few_rows)
 
 -- no row is left
-rows_end : (c : After-loop-i) (k : MatrixIn c.args.h c.args.size c.args.m c.args.sides.now c.args.n) → length k.high ≤ c.loop-i.i
-rows_end c k = omega (arith, c.loop-i-test.false, k.count, c.requires.n_bound, length-take c.args.n c.args.marks.on)
+rows_end : (c : After-loop-i) (k : MatrixIn c.args.h c.args.matrix) → length k.high ≤ c.loop-i.i
+rows_end c k = omega (arith, c.loop-i-test.false, k.count, c.requires.columns_bound, length-take c.args.matrix.columns c.args.marks.on)
 
 pub shape_of-cur : goal.shape_of-cur
 shape_of-cur c = whole (goal.at.shape_of-cur c).At-loop-i

@@ -6,4 +6,4 @@ use Rattle.solver.proofs.rim_closed.Given as goal
 
 abbrev pub invariant-loop-i : goal.invariant-loop-i
 invariant-loop-i l =
-    (k : MatrixIn l.h l.size l.m l.sides l.n) → Rimming k.rows k.high l.fn.marks l.h l.i l.cur
+    (k : MatrixIn l.h l.matrix) → Rimming k.rows k.high l.fn.marks l.h l.i l.cur
