@@ -13,7 +13,7 @@ use lib.Pow.{pow-lt}
 use lib.Bits.{bit_xor}
 use Rattle.std.specs.Prelude.{Some}
 use Rattle.columns.specs.Column.{bit, bit_at, chain_of, xor_bytes}
-use Rattle.columns.specs.SlotLaws.{xor-nil}
+use Rattle.columns.specs.SlotLaws.{xor-nil, slot-fits}
 use Rattle.columns.specs.Search.{highest_below, highest-held, highest-not-held}
 
 -- a one that is shifted by less than eight places stays in its byte
@@ -54,3 +54,6 @@ skip-bit col i l e =
     let up : suc (i - 1) ≡ i = omega arith in
     subst (λ (k : ℕ). highest_below (chain_of col) k ≡ highest_below (chain_of col) (i - 1)) up
     (highest-not-held (chain_of col) (i - 1) e)
+
+-- for the functions that take a slot as a part of the memory
+pub ruleset slot_bounds = (slot-fits)

@@ -6,18 +6,18 @@ use mathlib.Core.Bool.{Bool, true, false}
 use mathlib.Core.List.{List}
 use native.Mathlib.Nat.{mul-mod_left}
 use native.Mathlib.Omega.{arith}
-use lib.ListN.{length, set}
+use lib.ListN.{length}
 use lib.Bits.{bit_xor}
 use Rattle.std.specs.Prelude.{Option, Some, None}
 use Rattle.chains.specs.Chain.{Chain, differ}
 use Rattle.columns.specs.Column.{bit, bit_at, chain_of, xor_bytes}
 use Rattle.columns.specs.ColumnLaws.{bit-xor, length-xor, chain_of-xor}
-use Rattle.columns.specs.Slot.{room_of, slot, taken_at, store_slot}
+use Rattle.columns.specs.Slot.{room_of, slot, taken_at}
 use Rattle.columns.specs.SlotLaws.{bit-half_r, length-slot}
 use Rattle.columns.specs.Word.{WordAt}
 use Rattle.columns.proofs.Words.{bit-part}
 use Rattle.columns.specs.Search.{highest_below, HighestAt, highest-held, highest-skip, highest-at, highest-nothing}
-use Rattle.columns.specs.Reduce.{held_at, red_bytes, rows_left, Settled, settled, Settles, stored_at, taken_with, Inserts}
+use Rattle.columns.specs.Reduce.{held_at, red_bytes, rows_left, Settled, settled, Settles}
 use Rattle.columns.specs.ReduceLaws.{row-add, stuck, not_stuck, settled-stuck, settled_on, settled-skip, settled-red, settled_at, length-settled}
 
 pub record Settling (h : ℕ) (work : List ℕ) (taken : List Bool) (rows : ℕ) (start cur : List ℕ) (left : ℕ) : Type 0 where
@@ -25,10 +25,6 @@ pub record Settling (h : ℕ) (work : List ℕ) (taken : List Bool) (rows : ℕ)
   pub within : left ≤ rows
   pub long : length cur ≡ length start
   pub same : settled h work taken rows start ≡ settled h work taken left cur
-
-pub settling-start : (h : ℕ) (work : List ℕ) (taken : List Bool) (rows : ℕ) (start : List ℕ) → rows ≤ 8 * h
-    → Settling h work taken rows start start rows
-settling-start h work taken rows start l = record { low = l; within = omega arith; long = refl; same = refl }
 
 module _ {h : ℕ} {work : List ℕ} {taken : List Bool} {rows : ℕ} {start cur : List ℕ} {left : ℕ}
     (s : Settling h work taken rows start cur left) {answer : Option ℕ} (searched : answer ≡ highest_below (chain_of cur) left) where
@@ -105,17 +101,6 @@ pub record Scanning (h : ℕ) (work : List ℕ) (taken : List Bool) (rows : ℕ)
   pub read : WordAt cur at word
   pub few : left ≤ 64
   pub whole : at % 8 ≡ 0
-
-pub scanning-start : (h : ℕ) (work : List ℕ) (taken : List Bool) (rows : ℕ) (start : List ℕ) (word : ℕ) → rows ≤ 8 * h
-    → WordAt start (rows / 64 * 8) word → Scanning h work taken rows start start (rows / 64 * 8) (rows % 64) word
-scanning-start h work taken rows start word l w =
-    let parts : rows ≡ rows / 64 * 8 * 8 + rows % 64 = omega arith in
-    record {
-      settling = subst (Settling h work taken rows start start) parts (settling-start h work taken rows start l);
-      read = w;
-      few = omega arith;
-      whole = omega arith;
-    }
 
 module _ {h : ℕ} {work : List ℕ} {taken : List Bool} {rows : ℕ} {start cur : List ℕ} {at left word : ℕ}
     (s : Scanning h work taken rows start cur at left word) where
@@ -212,10 +197,6 @@ pub record Reducing (h : ℕ) (work : List ℕ) (taken : List Bool) (rows : ℕ)
   pub long : length cur ≡ length start
   pub same : red_bytes h work taken rows start ≡ red_bytes h work taken left cur
 
-pub reducing-start : (h : ℕ) (work : List ℕ) (taken : List Bool) (rows : ℕ) (start : List ℕ)
-    → Reducing h work taken rows start start rows
-reducing-start h work taken rows start = record { within = omega arith; long = refl; same = refl }
-
 -- where `settle` answers a row, that row is below the rows that it was given
 pub stuck-below : {h : ℕ} {work : List ℕ} {taken : List Bool} {rows : ℕ} {cur : List ℕ} {answer : Option ℕ} {l : List ℕ} {r : ℕ}
     → Settles h work taken rows cur answer l → answer ≡ Some r → r < rows
@@ -240,23 +221,3 @@ module _ {h : ℕ} {work : List ℕ} {taken : List Bool} {rows : ℕ} {start cur
     long = ap length e.what-left ∙ length-settled h work taken left cur ∙ s.long;
     same = so_far ∙ ap (λ (a : Option ℕ). red_bytes h work taken (rows_left a) l) found;
   }
-
--- ---- the insertion: what is left goes into the slot of the row at which it is stuck
-
-pub inserted-at : {h : ℕ} {work : List ℕ} {taken : List Bool} {rows : ℕ} {cur : List ℕ} {answer : Option ℕ} {l after : List ℕ}
-    {taken_after : List Bool} {r : ℕ} → Settles h work taken rows cur answer l → answer ≡ Some r → after ≡ store_slot h work r l
-    → taken_after ≡ set taken r true → Inserts h work taken rows cur (Some r) l after taken_after
-inserted-at e found put mark = record {
-  settles = record { where-stuck = sym found ∙ e.where-stuck; what-left = e.what-left };
-  stored = put;
-  marked = mark;
-}
-
--- nothing is left: the slots are as they were
-pub inserted-none : {h : ℕ} {work : List ℕ} {taken : List Bool} {rows : ℕ} {cur : List ℕ} {answer : Option ℕ} {l : List ℕ}
-    → Settles h work taken rows cur answer l → answer ≡ None → Inserts h work taken rows cur answer l work taken
-inserted-none {h} {work} {taken} {l = l} e none = record {
-  settles = e;
-  stored = sym (ap (λ (a : Option ℕ). stored_at h work a l) none);
-  marked = sym (ap (taken_with taken) none);
-}

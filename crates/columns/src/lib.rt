@@ -66,6 +66,7 @@ pub fn next_down(col: &[u8], from: usize) -> Option<usize>
 }
 
 // Adds slot r to the pair of columns in hand.
+#[tactic(auto, using(crate::proofs::Laws::slot_bounds))]
 pub fn add_slot(cur: &mut [u8], work: &[u8], h: usize, r: usize)
     requires r_bound { r < 8 * h }
     requires h_in_bounds { room_of h ≤ length work.now }
@@ -79,6 +80,7 @@ pub fn add_slot(cur: &mut [u8], work: &[u8], h: usize, r: usize)
 }
 
 // Puts the pair of columns in hand into slot r.
+#[tactic(auto, using(crate::proofs::Laws::slot_bounds))]
 pub fn store_slot(work: &mut [u8], cur: &[u8], h: usize, r: usize)
     requires r_bound { r < 8 * h }
     requires h_in_bounds { room_of h ≤ length work.old }

@@ -5,14 +5,9 @@ use Prim.Native.Nat.{ℕ, ◌+◌, ◌*◌, ◌<◌, ◌≤◌}
 use native.Mathlib.Omega.{arith}
 use lib.ListN.{length}
 use Rattle.columns.specs.SlotLaws.{slot-fits}
-use Rattle.columns.proofs.Settling.{scanning-start, scanning-end, scanning-down, scanning-stop, scanning-add, scan-low, scan-row-below, bit_below}
+use Rattle.columns.proofs.Settling.{scanning-end, scanning-down, scanning-stop, scanning-add, scan-low, scan-row-below, bit_below}
 use Rattle.columns.proofs.settle.Goals.{In-Some}
 use Rattle.columns.proofs.settle.Goals as goal
-
-pub loop-at-init : goal.loop-at-init
-loop-at-init c =
-    scanning-start c.args.h c.args.work.now c.args.taken.now c.args.rows
-    c.args.cur.now c.word_at-word.result c.requires.rows_bound c.word_at-word.ensures
 
 pub returns-then-at-eq0 : goal.returns-then-at-eq0
 returns-then-at-eq0 c =
@@ -49,9 +44,8 @@ overflow_add-r c = omega (arith, below (goal.at.overflow_add-r c).In-Some, c.ran
 pub bounds-taken-r : goal.bounds-taken-r
 bounds-taken-r c = omega (arith, below (goal.at.bounds-taken-r c).In-Some, c.requires.rows_in_bounds)
 
-pub add_slot-requires : goal.add_slot-requires
-add_slot-requires c =
-    record { r_bound = low (goal.at.add_slot-requires c).In-Some; h_in_bounds = c.requires.h_in_bounds; h_in_bounds_2 = omega (arith, c.loop-at.invariant.settling.long, c.requires.cur_len) }
+pub add_slot-requires-clause-r_bound : goal.add_slot-requires-clause-r_bound
+add_slot-requires-clause-r_bound c = low (goal.at.add_slot-requires-clause-r_bound c).In-Some
 
 pub overflow_mul-r-then-taken-r : goal.overflow_mul-r-then-taken-r
 overflow_mul-r-then-taken-r c = omega (arith, within (goal.at.overflow_mul-r-then-taken-r c).In-Some)

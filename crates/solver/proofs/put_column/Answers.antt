@@ -8,8 +8,8 @@ use native.Mathlib.Omega.{arith}
 use Rattle.format.specs.Simplex.{Simplex}
 use Rattle.columns.specs.SlotLaws.{slot-fits}
 use Rattle.lookup.specs.Sides.{Sides}
-use Rattle.solver.specs.Columns.{MatrixIn, SidesWithin, HighestSide, HoldsColumn, WritesColumn}
-use Rattle.solver.proofs.Adding.{column-sides, column-within}
+use Rattle.solver.specs.Columns.{MatrixIn, HighestSide, HoldsColumn, WritesColumn}
+use Rattle.solver.proofs.Adding.{column-sides}
 use Rattle.solver.proofs.Loading.{length_part, part-stored, next-inserted, next-written, halves-fit}
 use Rattle.solver.proofs.put_column.Goals.{After-highest_side-top}
 use Rattle.solver.proofs.put_column.Goals as goal
@@ -54,11 +54,6 @@ module _ (p : After-highest_side-top) where
       let lt = p.requires.rank_bound in
       (written k.rows _ (k.wide _ lt) k.some k.most (column-sides k lt)).column _ _ whole k.few_rows in-half refl
 
-  -- a pair of columns has room for its boundary
-  fits-pair : {bytes : ℕ} → bytes ≡ 2 * p.args.h
-      → SidesWithin (8 * bytes) p.args.matrix.width (get_or p.args.matrix.sides.now p.args.rank 0)
-  fits-pair whole = column-within p.requires.matrix_in p.requires.rank_bound (omega (arith, whole))
-
   -- the part of the memory that is the slot of that row is a whole pair
   abbrev slot-size : ℕ
   slot-size =
@@ -72,39 +67,14 @@ module _ (p : After-highest_side-top) where
   part-whole =
       length_part p.args.h p.args.work.now p.highest_side-top.result _ same_size row_low p.requires.h_in_bounds
 
-pub bounds-matrix-rank : goal.bounds-matrix-rank
-bounds-matrix-rank c =
-    omega (arith, c.requires.rank_bound, c.requires.matrix_in.room)
-
 pub overflow_mul-own : goal.overflow_mul-own
 overflow_mul-own c = omega (arith, bits-low c)
 
 pub overflow_add-own : goal.overflow_add-own
 overflow_add-own c = omega (arith, in-half c, bits-low c)
 
-pub bounds-taken-top : goal.bounds-taken-top
-bounds-taken-top c = row_listed (goal.at.bounds-taken-top c).After-highest_side-top
-
-pub write_column-requires : goal.write_column-requires
-write_column-requires c =
-    let whole = c.requires.cur_len in
-    record { sides_within = fits-pair (goal.at.write_column-requires c).After-highest_side-top whole; own_bound = omega (arith, whole, in-half (goal.at.write_column-requires c).After-highest_side-top) }
-
-pub overflow_add-top : goal.overflow_add-top
-overflow_add-top c = omega (arith, row_low (goal.at.overflow_add-top c).After-highest_side-top, bits-low (goal.at.overflow_add-top c).After-highest_side-top)
-
-pub insert_column-requires : goal.insert_column-requires
-insert_column-requires c =
-    record { top_bound = omega (arith, row_low (goal.at.insert_column-requires c).After-highest_side-top); h_in_bounds = c.requires.h_in_bounds; cur_len = c.write_column.auto.col ∙ c.requires.cur_len; top_in_bounds = omega (arith, row_listed (goal.at.insert_column-requires c).After-highest_side-top); le_h = c.requires.le_h }
-
-pub overflow_mul-from : goal.overflow_mul-from
-overflow_mul-from c = omega (arith, bits-low (goal.at.overflow_mul-from c).After-highest_side-top)
-
 pub overflow_mul-from-else-taken-top : goal.overflow_mul-from-else-taken-top
 overflow_mul-from-else-taken-top c = omega (arith, slot-within (goal.at.overflow_mul-from-else-taken-top c).After-highest_side-top)
-
-pub overflow_mul-to : goal.overflow_mul-to
-overflow_mul-to c = omega (arith, bits-low (goal.at.overflow_mul-to c).After-highest_side-top)
 
 pub overflow_add-to : goal.overflow_add-to
 overflow_add-to c = omega (arith, slot-within (goal.at.overflow_add-to c).After-highest_side-top)
@@ -112,23 +82,17 @@ overflow_add-to c = omega (arith, slot-within (goal.at.overflow_add-to c).After-
 pub slice_bounds-write_column-end : goal.slice_bounds-write_column-end
 slice_bounds-write_column-end c = slot-within (goal.at.slice_bounds-write_column-end c).After-highest_side-top
 
-pub write_column-requires-else-taken-top : goal.write_column-requires-else-taken-top
-write_column-requires-else-taken-top c =
-    record { sides_within = fits-pair (goal.at.write_column-requires-else-taken-top c).After-highest_side-top (part-whole (goal.at.write_column-requires-else-taken-top c).After-highest_side-top); own_bound = omega (arith, part-whole (goal.at.write_column-requires-else-taken-top c).After-highest_side-top, in-half (goal.at.write_column-requires-else-taken-top c).After-highest_side-top) }
-
-pub bounds-taken-top-else-taken-top : goal.bounds-taken-top-else-taken-top
-bounds-taken-top-else-taken-top c = row_listed (goal.at.bounds-taken-top-else-taken-top c).After-highest_side-top
-
 pub returns-then-taken-top : goal.returns-then-taken-top
 returns-then-taken-top c = λ k.
+    let p = (goal.at.returns-then-taken-top c).After-highest_side-top in
     next-inserted k.rows k.high (omega (arith, c.requires.rank_bound, k.count)) k.few_rows
-    (holds-column (goal.at.returns-then-taken-top c).After-highest_side-top k c.write_column.ensures c.requires.cur_len) (highest (goal.at.returns-then-taken-top c).After-highest_side-top k) c.insert_column.ensures
+    (holds-column p k c.write_column.ensures c.requires.cur_len) (highest p k) c.insert_column.ensures
 
 pub returns-else-taken-top : goal.returns-else-taken-top
 returns-else-taken-top c = λ k.
-    let room = c.requires.h_in_bounds in
-    let r = c.highest_side-top.result in
-    let whole = c.write_column-else-taken-top.auto.col ∙ part-whole (goal.at.returns-else-taken-top c).After-highest_side-top in
+    let p = (goal.at.returns-else-taken-top c).After-highest_side-top in
+    let whole = c.write_column-else-taken-top.auto.col ∙ part-whole p in
     next-written k.rows k.high (omega (arith, c.requires.rank_bound, k.count)) k.few_rows
-    (holds-column (goal.at.returns-else-taken-top c).After-highest_side-top k c.write_column-else-taken-top.ensures (part-whole (goal.at.returns-else-taken-top c).After-highest_side-top)) (highest (goal.at.returns-else-taken-top c).After-highest_side-top k) room whole (row_listed (goal.at.returns-else-taken-top c).After-highest_side-top) c.if-taken-top.false
-    (part-stored c.args.h c.args.work.now r _ (same_size (goal.at.returns-else-taken-top c).After-highest_side-top) c.write_column-else-taken-top.new.col whole)
+    (holds-column p k c.write_column-else-taken-top.ensures (part-whole p)) (highest p k) c.requires.h_in_bounds whole
+    (row_listed p) c.if-taken-top.false
+    (part-stored c.args.h c.args.work.now c.highest_side-top.result _ (same_size p) c.write_column-else-taken-top.new.col whole)

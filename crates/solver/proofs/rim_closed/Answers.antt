@@ -1,13 +1,13 @@
 -- `rim_closed` adds up the boundaries of the marked rows and looks for a rank in the sum.
 -- Assumes nothing.
 use Prim.Native.Nat.{◌≤◌, ◌<◌}
-use mathlib.Core.Path.{◌≡◌, sym, ap, ◌∙◌}
+use mathlib.Core.Path.{sym, ap, ◌∙◌}
 use mathlib.Core.Bool.{not}
 use Rattle.std.proofs.Math.Bool.{not-not}
 use native.Mathlib.Omega.{arith}
 use lib.ListN.{length, length-take}
 use Rattle.solver.specs.Columns.{MatrixIn}
-use Rattle.solver.proofs.Adding.{column-sides, column-within}
+use Rattle.solver.proofs.Adding.{column-sides}
 use Rattle.solver.proofs.Marking.{mark-at}
 use Rattle.solver.proofs.Rimming.{rimming-start, rimming-skip, rimming-add, rim_told}
 use Rattle.solver.proofs.rim_closed.Goals.{then-on, else-on, In-loop-i, After-loop-i, At-loop-i}
@@ -21,17 +21,6 @@ loop-i-init c = λ k.
 row_in : (c : In-loop-i) → c.loop-i.i < c.args.matrix.columns
 row_in c = omega (arith, c.loop-i-test.true, length-take c.args.matrix.columns c.args.marks.on)
 
-whole : (c : At-loop-i) → length c.loop-i.cur ≡ length c.args.cur.now
-whole c = (c.loop-i.invariant c.requires.matrix_in).whole ∙ sym c.requires.cur_len
-
-pub bounds-matrix-i : goal.bounds-matrix-i
-bounds-matrix-i c = omega (arith, row_in (goal.at.bounds-matrix-i c).In-loop-i, c.requires.matrix_in.room)
-
-pub add_boundary-requires : goal.add_boundary-requires
-add_boundary-requires c =
-    column-within c.requires.matrix_in (row_in (goal.at.add_boundary-requires c).In-loop-i)
-    (omega (arith, whole (goal.at.add_boundary-requires c).At-loop-i, c.requires.cur_len))
-
 pub loop-i-preserved : goal.loop-i-preserved
 loop-i-preserved c = λ k.
     let a = c.loop-i.invariant k in
@@ -44,16 +33,9 @@ loop-i-preserved c = λ k.
       | else-on w ↦ rimming-skip _ _ _ _ a lt (mark ∙ w.if-on.false) w.cur-is
     ]
 
-pub next_down-requires : goal.next_down-requires
-next_down-requires c =
-    omega (arith, whole (goal.at.next_down-requires c).At-loop-i, c.requires.cur_len, c.requires.matrix_in.row_count, c.requires.matrix_in.few_rows)
-
 -- no row is left
 rows_end : (c : After-loop-i) (k : MatrixIn c.args.h c.args.matrix) → length k.high ≤ c.loop-i.i
 rows_end c k = omega (arith, c.loop-i-test.false, k.count, c.requires.columns_bound, length-take c.args.matrix.columns c.args.marks.on)
-
-pub shape_of-cur : goal.shape_of-cur
-shape_of-cur c = whole (goal.at.shape_of-cur c).At-loop-i
 
 pub returns : goal.returns
 returns c = λ k.
