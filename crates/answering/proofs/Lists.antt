@@ -27,6 +27,7 @@ use Rattle.lent_lists.specs.HeldLaws.{few-simplices}
 use Rattle.lent_lists.specs.declared.Counts.{Counts}
 use Rattle.lists.specs.declared.Marks.{Marks}
 use Rattle.solver.specs.Columns.{MatrixIn}
+use Rattle.solver.specs.declared.Matrix.{Matrix}
 use Rattle.solver.specs.Solved.{RimTold, no-rim}
 use Rattle.writer.specs.Normal.{list-bytes}
 use Rattle.answers.specs.Meaning.{member_bytes, chain_bytes}
@@ -122,10 +123,11 @@ module _ {v : ℕ} {c : Counts} {e_keys t_keys s_keys t_sides s_sides : List ℕ
   numbers_fit (suc (suc (suc zero))) n r some le e = omega (arith, e, ap length r, held.room.tetrahedra)
   numbers_fit (suc (suc (suc (suc k)))) n r some le e = absurd (omega arith)
 
-  -- the array S is that of the dimension
-  unfoldable pub matrix-in : (dim m n : ℕ) {S : List ℕ} → S ≡ of_dimension (dim + 1) e_keys t_sides s_sides → dim ≤ 2
-      → m ≡ length (simplices X dim) → n ≡ length (simplices X (dim + 1)) → MatrixIn 64 (dim + 2) m S n
-  matrix-in dim m n {S} s le rows_are columns-are =
+  -- its sides are the array of the dimension
+  unfoldable pub matrix-in : (dim : ℕ) (matrix : Matrix) → matrix.sides.now ≡ of_dimension (dim + 1) e_keys t_sides s_sides → dim ≤ 2
+      → matrix.rows ≡ length (simplices X dim) → matrix.columns ≡ length (simplices X (dim + 1)) → matrix.width ≡ dim + 2
+      → MatrixIn 64 matrix
+  matrix-in dim matrix s le rows_are columns-are as_wide =
       let up : suc dim ≡ dim + 1 = omega arith in
       record {
         rows = simplices X dim;
@@ -137,15 +139,15 @@ module _ {v : ℕ} {c : Counts} {e_keys t_keys s_keys t_sides s_sides : List ℕ
         most = omega arith;
         rising = λ i lt. rising-list X held.sound (dim + 1) i (omega arith);
         sided =
-            subst₂ (λ (k : ℕ) (a : List ℕ). Sided (simplices X dim) (simplices X k) a n) up
+            subst₂ (λ (k : ℕ) (a : List ℕ). Sided (simplices X dim) (simplices X k) a matrix.columns) up
             (ap (λ (k : ℕ). of_dimension k e_keys t_sides s_sides) up ∙ sym s)
-            (sides-in dim n le (columns-are ∙ ap (λ (k : ℕ). length (simplices X k)) (sym up)));
+            (sides-in dim matrix.columns le (columns-are ∙ ap (λ (k : ℕ). length (simplices X k)) (sym up)));
         few_rows = few-simplices X held.sound dim;
         few_columns = few-simplices X held.sound (dim + 1);
         room =
             omega (
               arith,
-              sides-fit dim n le (columns-are ∙ ap (λ (k : ℕ). length (simplices X k)) (sym up)),
+              sides-fit dim matrix.columns le (columns-are ∙ ap (λ (k : ℕ). length (simplices X k)) (sym up)),
               ap length (s ∙ ap (λ (k : ℕ). of_dimension k e_keys t_sides s_sides) (sym up)),
             );
       }

@@ -23,7 +23,6 @@ use Rattle.jobs.specs.Meaning.{Asking, Told, job_in}
 use Rattle.jobs.specs.Known.{told-accepted, told_asking}
 use Rattle.jobs.specs.declared.NumbersRead.{NumbersRead}
 use Rattle.solver.specs.Solved.{asked, rim_of, RimTold, FillSays, ClassTold}
-use Rattle.slots.specs.declared.Filled.TheVariants as filled
 use Rattle.writer.specs.Meaning.{Put}
 use Rattle.answers.specs.Meaning.{chain_bytes}
 use Rattle.answering.specs.Meaning.{Answers, AnswersFile}
@@ -59,10 +58,10 @@ module _ {read : NumbersRead} {e_keys t_keys s_keys t_sides s_sides : List ℕ}
 
     -- the solver found a filling, so the rim is empty
     pub answers-patch : (x : Chain) {before after : List ℕ} {count : ℕ} {l : List Simplex} → l ≡ simplices X (dim + 1)
-        → FillSays (simplices X dim) (simplices X (dim + 1)) read.marks filled.Found x
+        → FillSays (simplices X dim) (simplices X (dim + 1)) read.marks true x
         → Put before 0 (chain_bytes read.head.d x l) after count → Answers j before after count
     answers-patch x {before} {after} {count} same says put =
-        let found = subst₂ (λ (r c : List Simplex). FillSays r c read.marks filled.Found x) same_rows same-cols says in
+        let found = subst₂ (λ (r c : List Simplex). FillSays r c read.marks true x) same_rows same-cols says in
         let smallest : SmallestFilling (matrix j) (length (cols j)) (asked_chain j) x =
         subst (λ A. SmallestFilling (matrix j) (length (cols j)) A x) same_asked found in
         let bytes =
@@ -91,10 +90,10 @@ module _ {read : NumbersRead} {e_keys t_keys s_keys t_sides s_sides : List ℕ}
       }
 
       pub answers-unfilled : (x : Chain) {before after : List ℕ} {count : ℕ} → closed ≡ true
-          → FillSays (simplices X dim) (simplices X (dim + 1)) read.marks filled.None x
+          → FillSays (simplices X dim) (simplices X (dim + 1)) read.marks false x
           → Put before 0 (refusal_record no_filling 0) after count → Answers j before after count
       answers-unfilled x e says put =
-          let none = subst₂ (λ (r c : List Simplex). FillSays r c read.marks filled.None x) same_rows same-cols says in
+          let none = subst₂ (λ (r c : List Simplex). FillSays r c read.marks false x) same_rows same-cols says in
           record {
             answer = refusal_record no_filling 0;
             is = asks-fill _

@@ -17,7 +17,7 @@ ghost use Rattle.answering.specs.Meaning.{Answers, AnswersFile, of_dimension};
 use jobs::NumbersRead;
 use lists::SimplexList;
 use refusals::Reason;
-use slots::Filled;
+use solver::Matrix;
 
 // Of three lists' numbers, or sides, those of a dimension from 1 on.
 fn numbers_of<'a>(
@@ -82,7 +82,13 @@ fn rim_closed<'a>(
     let n = counts.of(head.v, low + 1);
     let sides = numbers_of(low + 1, e_keys, t_sides, s_sides);
     let mut cur = [0u8; 128];
-    solver::rim_closed(&mut cur, m, sides, n, low + 2, marks, 64)
+    let matrix = Matrix {
+        rows: m,
+        sides,
+        columns: n,
+        width: low + 2,
+    };
+    solver::rim_closed(&mut cur, matrix, marks, 64)
 }
 
 // Fills A, of dimension `dim`: the patch, or refusal 12 or 13. What has a filling has a closed rim, so the rim is looked at only
@@ -112,20 +118,23 @@ fn answer_fill<'a>(
     let n = counts.of(head.v, dim + 1);
     let sides = numbers_of(dim + 1, e_keys, t_sides, s_sides);
     let mut cur = [0u8; 128];
-    let filled = solver::fill(work, &mut cur, m, sides, n, dim + 2, marks, 64);
-    match filled {
-        Filled::Found => {
-            let cols = numbers_of(dim + 1, e_keys, t_keys, s_keys);
-            let half = 64;
-            answers::put_chain(out, head.d, cols, n, dim + 2, &cur[half..])
+    let matrix = Matrix {
+        rows: m,
+        sides,
+        columns: n,
+        width: dim + 2,
+    };
+    let filled = solver::fill(work, &mut cur, matrix, marks, 64);
+    if filled {
+        let cols = numbers_of(dim + 1, e_keys, t_keys, s_keys);
+        let half = 64;
+        answers::put_chain(out, head.d, cols, n, dim + 2, &cur[half..])
+    } else {
+        let closed = rim_closed(read, dim, e_keys, t_keys, s_keys, t_sides, s_sides);
+        if !closed {
+            return refuse(out, Reason::RimOpen, 0);
         }
-        Filled::None => {
-            let closed = rim_closed(read, dim, e_keys, t_keys, s_keys, t_sides, s_sides);
-            if !closed {
-                return refuse(out, Reason::RimOpen, 0);
-            }
-            refuse(out, Reason::NoFilling, 0)
-        }
+        refuse(out, Reason::NoFilling, 0)
     }
 }
 
@@ -155,7 +164,13 @@ fn answer_class<'a>(
     let n = counts.of(head.v, dim + 1);
     let sides = numbers_of(dim + 1, e_keys, t_sides, s_sides);
     let mut cur = [0u8; 128];
-    solver::class(work, &mut cur, m, sides, n, dim + 2, marks, 64);
+    let matrix = Matrix {
+        rows: m,
+        sides,
+        columns: n,
+        width: dim + 2,
+    };
+    solver::class(work, &mut cur, matrix, marks, 64);
     let start = 0;
     let half = 64;
     if dim == 0 {

@@ -6,20 +6,19 @@ use mathlib.Core.Bool.{Bool, true, false}
 use mathlib.Core.List.{List}
 use native.Mathlib.Nat.{mul-mod_left}
 use native.Mathlib.Omega.{arith}
-use lib.ListN.{length, get_or, set, drop}
-use lib.Seq.{get_or-take, get_or-drop}
+use lib.ListN.{length}
 use lib.Bits.{bit_xor}
+use Rattle.std.specs.Prelude.{Option, Some, None}
 use Rattle.chains.specs.Chain.{Chain, differ}
 use Rattle.columns.specs.Column.{bit, bit_at, chain_of, xor_bytes}
 use Rattle.columns.specs.ColumnLaws.{bit-xor, length-xor, chain_of-xor}
-use Rattle.columns.specs.Slot.{room_of, slot, taken_at, store_slot}
+use Rattle.columns.specs.Slot.{room_of, slot, taken_at}
 use Rattle.columns.specs.SlotLaws.{bit-half_r, length-slot}
 use Rattle.columns.specs.Word.{WordAt}
+use Rattle.columns.proofs.Words.{bit-part}
 use Rattle.columns.specs.Search.{highest_below, HighestAt, highest-held, highest-skip, highest-at, highest-nothing}
-use Rattle.columns.specs.Reduce.{held_at, red_bytes, rows_left, Settled, settled, Settles, stored_at, taken_with, Inserts}
+use Rattle.columns.specs.Reduce.{held_at, red_bytes, rows_left, Settled, settled, Settles}
 use Rattle.columns.specs.ReduceLaws.{row-add, stuck, not_stuck, settled-stuck, settled_on, settled-skip, settled-red, settled_at, length-settled}
-use Rattle.columns.specs.declared.Highest.{Highest}
-use Rattle.columns.specs.declared.Highest.TheVariants.{At, Nothing}
 
 pub record Settling (h : ℕ) (work : List ℕ) (taken : List Bool) (rows : ℕ) (start cur : List ℕ) (left : ℕ) : Type 0 where
   pub low : rows ≤ 8 * h
@@ -27,27 +26,23 @@ pub record Settling (h : ℕ) (work : List ℕ) (taken : List Bool) (rows : ℕ)
   pub long : length cur ≡ length start
   pub same : settled h work taken rows start ≡ settled h work taken left cur
 
-pub settling-start : (h : ℕ) (work : List ℕ) (taken : List Bool) (rows : ℕ) (start : List ℕ) → rows ≤ 8 * h
-    → Settling h work taken rows start start rows
-settling-start h work taken rows start l = record { low = l; within = omega arith; long = refl; same = refl }
-
 module _ {h : ℕ} {work : List ℕ} {taken : List Bool} {rows : ℕ} {start cur : List ℕ} {left : ℕ}
-    (s : Settling h work taken rows start cur left) {answer : Highest} (searched : answer ≡ highest_below (chain_of cur) left) where
+    (s : Settling h work taken rows start cur left) {answer : Option ℕ} (searched : answer ≡ highest_below (chain_of cur) left) where
   -- row j of those left is a bit of the whole pair
   row-bit : (j : ℕ) → j < left → held_at h j cur ≡ bit_at cur j
   row-bit j l = bit-half_r h cur j (let low = s.low in let w = s.within in omega arith)
 
   -- nothing is held: it is through
-  pub settling-end : answer ≡ Nothing → Settles h work taken rows start Nothing cur
+  pub settling-end : answer ≡ None → Settles h work taken rows start None cur
   unfolding settled
   settling-end none =
-      let all : settled h work taken rows start ≡ record { at = Nothing; cur = cur } =
+      let all : settled h work taken rows start ≡ record { at = None; cur = cur } =
       s.same
       ∙ settled-skip h work taken 0 left cur (omega arith)
       (λ j p q. row-bit j q ∙ highest-nothing (chain_of cur) left (sym searched ∙ none) j q) in
       record { where-stuck = sym (ap (λ (t : Settled). t.at) all); what-left = sym (ap (λ (t : Settled). t.cur) all) }
 
-  module _ {r : ℕ} (found : answer ≡ At r) where
+  module _ {r : ℕ} (found : answer ≡ Some r) where
     at_row : HighestAt (chain_of cur) left r
     at_row = highest-at (chain_of cur) left r (sym searched ∙ found)
 
@@ -65,9 +60,9 @@ module _ {h : ℕ} {work : List ℕ} {taken : List Bool} {rows : ℕ} {start cur
     down = settled-skip h work taken (suc r) left cur row_below (λ j p q. row-bit j q ∙ at_row.above j p q)
 
     -- the slot is not taken: it is stuck
-    pub settling-stop : taken_at taken r ≡ false → Settles h work taken rows start (At r) cur
+    pub settling-stop : taken_at taken r ≡ false → Settles h work taken rows start (Some r) cur
     settling-stop out =
-        let all : settled h work taken rows start ≡ record { at = At r; cur = cur } =
+        let all : settled h work taken rows start ≡ record { at = Some r; cur = cur } =
         s.same ∙ down ∙ settled-stuck h work taken r cur (stuck h work taken r cur held out) in
         record { where-stuck = sym (ap (λ (t : Settled). t.at) all); what-left = sym (ap (λ (t : Settled). t.cur) all) }
 
@@ -86,26 +81,16 @@ module _ {h : ℕ} {work : List ℕ} {taken : List Bool} {rows : ℕ} {start cur
 
 -- ---- words of sums
 
--- the bits of a slot are those of the memory from where it begins
-bit-slot : (h : ℕ) (work : List ℕ) (r i : ℕ) → i < 8 * (2 * h) → bit_at (slot h work r) i ≡ bit_at work (8 * (r * (2 * h)) + i)
-unfolding bit_at slot
-bit-slot h work r i l =
-    let from : ℕ = r * (2 * h) in
-    let byte : (8 * from + i) / 8 ≡ from + i / 8 = omega arith in
-    let place : (8 * from + i) % 8 ≡ i % 8 = omega arith in
-    ap (λ (x : ℕ). bit x (i % 8))
-    (get_or-take (2 * h) (drop from work) (i / 8) 0 (omega arith) ∙ get_or-drop from work (i / 8) 0 ∙ ap (λ (n : ℕ). get_or work n 0) (sym byte))
-    ∙ ap (bit (get_or work ((8 * from + i) / 8) 0)) (sym place)
-
 -- the word of a pair to which a slot was added is the sum of the two words
 word_sum : (h : ℕ) (work : List ℕ) (r : ℕ) → r < 8 * h → room_of h ≤ length work → (cur : List ℕ) (at word other : ℕ)
     → length cur ≡ 2 * h → at + 8 ≤ 2 * h → WordAt cur at word → WordAt work (r * (2 * h) + at) other
     → WordAt (xor_bytes cur (slot h work r)) at (bit_xor word other)
+unfolding slot
 word_sum h work r low room cur at word other pair within w v = record {
   holds = λ k l.
       let place : 8 * (r * (2 * h) + at) + k ≡ 8 * (r * (2 * h)) + (8 * at + k) = omega arith in
       bit-xor word other k
-      ∙ ap₂ differ (w.holds k l) (v.holds k l ∙ ap (bit_at work) place ∙ sym (bit-slot h work r (8 * at + k) (omega arith)))
+      ∙ ap₂ differ (w.holds k l) (v.holds k l ∙ ap (bit_at work) place ∙ sym (bit-part work (r * (2 * h)) (2 * h) (8 * at + k) (omega arith)))
       ∙ sym (ap (λ (c : Chain). c (8 * at + k)) (chain_of-xor cur (slot h work r) (omega (arith, length-slot h work r low room))));
 }
 
@@ -117,24 +102,13 @@ pub record Scanning (h : ℕ) (work : List ℕ) (taken : List Bool) (rows : ℕ)
   pub few : left ≤ 64
   pub whole : at % 8 ≡ 0
 
-pub scanning-start : (h : ℕ) (work : List ℕ) (taken : List Bool) (rows : ℕ) (start : List ℕ) (word : ℕ) → rows ≤ 8 * h
-    → WordAt start (rows / 64 * 8) word → Scanning h work taken rows start start (rows / 64 * 8) (rows % 64) word
-scanning-start h work taken rows start word l w =
-    let parts : rows ≡ rows / 64 * 8 * 8 + rows % 64 = omega arith in
-    record {
-      settling = subst (Settling h work taken rows start start) parts (settling-start h work taken rows start l);
-      read = w;
-      few = omega arith;
-      whole = omega arith;
-    }
-
 module _ {h : ℕ} {work : List ℕ} {taken : List Bool} {rows : ℕ} {start cur : List ℕ} {at left word : ℕ}
     (s : Scanning h work taken rows start cur at left word) where
   -- where the word stands, it is within the first half of the pair
   pub scan-low : at ≤ h
   scan-low = omega (arith, s.settling.low, s.settling.within)
 
-  module _ {answer : Highest} (searched : answer ≡ highest_below (bit word) left) where
+  module _ {answer : Option ℕ} (searched : answer ≡ highest_below (bit word) left) where
     -- a bit of the word that is searched is a row of the pair
     word_row : (j : ℕ) → at * 8 ≤ j → j < at * 8 + left → bit word (j - at * 8) ≡ bit_at cur j
     word_row j p q =
@@ -143,7 +117,7 @@ module _ {h : ℕ} {work : List ℕ} {taken : List Bool} {rows : ℕ} {start cur
 
     -- ---- the word holds no row: they are all passed over
 
-    module _ (none : answer ≡ Nothing) where
+    module _ (none : answer ≡ None) where
       passed : Settling h work taken rows start cur (at * 8)
       passed = record {
         low = s.settling.low;
@@ -158,11 +132,11 @@ module _ {h : ℕ} {work : List ℕ} {taken : List Bool} {rows : ℕ} {start cur
       }
 
       -- it was the lowest word
-      pub scanning-end : at ≡ 0 → Settles h work taken rows start Nothing cur
+      pub scanning-end : at ≡ 0 → Settles h work taken rows start None cur
       unfolding highest_below
       scanning-end z =
           let through : Settling h work taken rows start cur 0 = subst (λ (n : ℕ). Settling h work taken rows start cur (n * 8)) z passed in
-          settling-end through {answer = Nothing} refl refl
+          settling-end through {answer = None} refl refl
 
       -- on with the word below
       pub scanning-down : (at ≡ 0 → ⊥) → (next : ℕ) → WordAt cur (at - 8) next
@@ -179,14 +153,14 @@ module _ {h : ℕ} {work : List ℕ} {taken : List Bool} {rows : ℕ} {start cur
 
     -- ---- the word holds a row, and none above
 
-    module _ {k : ℕ} (found : answer ≡ At k) where
+    module _ {k : ℕ} (found : answer ≡ Some k) where
       top : HighestAt (bit word) left k
       top = highest-at (bit word) left k (sym searched ∙ found)
 
       pub bit_below : k < left
       bit_below = top.below
 
-      row-found : At (at * 8 + k) ≡ highest_below (chain_of cur) (at * 8 + left)
+      row-found : Some (at * 8 + k) ≡ highest_below (chain_of cur) (at * 8 + left)
       row-found =
           let back : at * 8 + k - at * 8 ≡ k = omega arith in
           sym (highest-skip (chain_of cur) (suc (at * 8 + k)) (at * 8 + left) (omega (arith, bit_below))
@@ -200,7 +174,7 @@ module _ {h : ℕ} {work : List ℕ} {taken : List Bool} {rows : ℕ} {start cur
       pub scan-row-below : at * 8 + k < rows
       scan-row-below = omega (arith, bit_below, s.settling.within)
 
-      pub scanning-stop : taken_at taken (at * 8 + k) ≡ false → Settles h work taken rows start (At (at * 8 + k)) cur
+      pub scanning-stop : taken_at taken (at * 8 + k) ≡ false → Settles h work taken rows start (Some (at * 8 + k)) cur
       scanning-stop out = settling-stop s.settling row-found refl out
 
       -- the slot is added to the pair, and its word to the word
@@ -223,51 +197,27 @@ pub record Reducing (h : ℕ) (work : List ℕ) (taken : List Bool) (rows : ℕ)
   pub long : length cur ≡ length start
   pub same : red_bytes h work taken rows start ≡ red_bytes h work taken left cur
 
-pub reducing-start : (h : ℕ) (work : List ℕ) (taken : List Bool) (rows : ℕ) (start : List ℕ)
-    → Reducing h work taken rows start start rows
-reducing-start h work taken rows start = record { within = omega arith; long = refl; same = refl }
-
 -- where `settle` answers a row, that row is below the rows that it was given
-pub stuck-below : {h : ℕ} {work : List ℕ} {taken : List Bool} {rows : ℕ} {cur : List ℕ} {answer : Highest} {l : List ℕ} {r : ℕ}
-    → Settles h work taken rows cur answer l → answer ≡ At r → r < rows
+pub stuck-below : {h : ℕ} {work : List ℕ} {taken : List Bool} {rows : ℕ} {cur : List ℕ} {answer : Option ℕ} {l : List ℕ} {r : ℕ}
+    → Settles h work taken rows cur answer l → answer ≡ Some r → r < rows
 stuck-below {h} {work} {taken} {rows} {cur} {r = r} e found = (settled_at h work taken rows cur r (sym e.where-stuck ∙ found)).0
 
 module _ {h : ℕ} {work : List ℕ} {taken : List Bool} {rows : ℕ} {start cur : List ℕ} {left : ℕ}
-    (s : Reducing h work taken rows start cur left) {answer : Highest} {l : List ℕ} (e : Settles h work taken left cur answer l) where
+    (s : Reducing h work taken rows start cur left) {answer : Option ℕ} {l : List ℕ} (e : Settles h work taken left cur answer l) where
   -- the row at which it settled, and what is left, is as far as the reduction has come
   so_far : red_bytes h work taken rows start ≡ red_bytes h work taken (rows_left answer) l
   so_far =
       s.same
       ∙ settled-red h work taken left cur
-      ∙ ap₂ (λ (a : Highest) (c : List ℕ). red_bytes h work taken (rows_left a) c) (sym e.where-stuck) (sym e.what-left)
+      ∙ ap₂ (λ (a : Option ℕ) (c : List ℕ). red_bytes h work taken (rows_left a) c) (sym e.where-stuck) (sym e.what-left)
 
-  pub reducing-end : answer ≡ Nothing → l ≡ red_bytes h work taken rows start
+  pub reducing-end : answer ≡ None → l ≡ red_bytes h work taken rows start
   unfolding red_bytes
-  reducing-end none = sym (so_far ∙ ap (λ (a : Highest). red_bytes h work taken (rows_left a) l) none)
+  reducing-end none = sym (so_far ∙ ap (λ (a : Option ℕ). red_bytes h work taken (rows_left a) l) none)
 
-  pub reducing-on : {r : ℕ} → answer ≡ At r → Reducing h work taken rows start l r
+  pub reducing-on : {r : ℕ} → answer ≡ Some r → Reducing h work taken rows start l r
   reducing-on found = record {
     within = let b = stuck-below e found in let w = s.within in omega arith;
     long = ap length e.what-left ∙ length-settled h work taken left cur ∙ s.long;
-    same = so_far ∙ ap (λ (a : Highest). red_bytes h work taken (rows_left a) l) found;
+    same = so_far ∙ ap (λ (a : Option ℕ). red_bytes h work taken (rows_left a) l) found;
   }
-
--- ---- the insertion: what is left goes into the slot of the row at which it is stuck
-
-pub inserted-at : {h : ℕ} {work : List ℕ} {taken : List Bool} {rows : ℕ} {cur : List ℕ} {answer : Highest} {l after : List ℕ}
-    {taken_after : List Bool} {r : ℕ} → Settles h work taken rows cur answer l → answer ≡ At r → after ≡ store_slot h work r l
-    → taken_after ≡ set taken r true → Inserts h work taken rows cur (At r) l after taken_after
-inserted-at e found put mark = record {
-  settles = record { where-stuck = sym found ∙ e.where-stuck; what-left = e.what-left };
-  stored = put;
-  marked = mark;
-}
-
--- nothing is left: the slots are as they were
-pub inserted-none : {h : ℕ} {work : List ℕ} {taken : List Bool} {rows : ℕ} {cur : List ℕ} {answer : Highest} {l : List ℕ}
-    → Settles h work taken rows cur answer l → answer ≡ Nothing → Inserts h work taken rows cur answer l work taken
-inserted-none {h} {work} {taken} {l = l} e none = record {
-  settles = e;
-  stored = sym (ap (λ (a : Highest). stored_at h work a l) none);
-  marked = sym (ap (taken_with taken) none);
-}

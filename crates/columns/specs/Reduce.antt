@@ -1,12 +1,10 @@
 -- What the code does with a pair of columns and the slots, as functions on byte lists: a full reduction (`red_bytes`),
 -- and a reduction that stops at the first row whose slot is not taken (`settled`), which an insertion then takes.
 -- Both go through the rows from the top down, and read no slot that is not taken, whatever its bytes are.
-use Rattle.std.specs.Prelude.{ℕ, zero, suc, ◌≡◌, Bool, true, false, not, ◌&&◌, cond, List, set}
+use Rattle.std.specs.Prelude.{ℕ, zero, suc, ◌≡◌, Bool, true, false, not, ◌&&◌, cond, List, set, Option, Some, None, unwrap_or}
 use Rattle.chains.specs.Chain.{Chain, only}
 use Rattle.columns.specs.Column.{xor_bytes}
 use Rattle.columns.specs.Slot.{chain_r, chain_v, slot, taken_at, store_slot}
-use Rattle.columns.specs.declared.Highest.{Highest}
-use Rattle.columns.specs.declared.Highest.TheVariants.{At, Nothing}
 
 -- whether a pair of columns holds row r, which is a rank of its first half
 abbrev pub held_at : ℕ → ℕ → List ℕ → Bool
@@ -27,38 +25,37 @@ stuck_at h taken r cur = held_at h r cur && not (taken_at taken r)
 
 -- where a reduction got stuck, if it did, and what was in hand then
 pub record Settled : Type 0 where
-  pub at : Highest
+  pub at : Option ℕ
   pub cur : List ℕ
 
 -- the rows below r, from the top down, up to the first row at which cur is stuck
 unfoldable pub settled : ℕ → List ℕ → List Bool → ℕ → List ℕ → Settled
-settled h work taken zero cur = record { at = Nothing; cur = cur }
+settled h work taken zero cur = record { at = None; cur = cur }
 settled h work taken (suc r) cur =
-    cond (stuck_at h taken r cur) (record { at = At r; cur = cur }) (settled h work taken r (red_row h work taken r cur))
+    cond (stuck_at h taken r cur) (record { at = Some r; cur = cur }) (settled h work taken r (red_row h work taken r cur))
 
 -- how many rows are left below the one at which a reduction settled
-abbrev pub rows_left : Highest → ℕ
-rows_left (At r) = r
-rows_left Nothing = 0
+abbrev pub rows_left : Option ℕ → ℕ
+rows_left at = unwrap_or at 0
 
 -- the answer and the pair in hand that `settle` leaves
-pub record Settles (h : ℕ) (work : List ℕ) (taken : List Bool) (rows : ℕ) (cur : List ℕ) (answer : Highest)
+pub record Settles (h : ℕ) (work : List ℕ) (taken : List Bool) (rows : ℕ) (cur : List ℕ) (answer : Option ℕ)
     (left : List ℕ) : Type 0 where
   pub where-stuck : answer ≡ (settled h work taken rows cur).at
   pub what-left : left ≡ (settled h work taken rows cur).cur
 
 -- the work memory after an insertion: what is left goes into the slot of the row at which it is stuck
-abbrev pub stored_at : ℕ → List ℕ → Highest → List ℕ → List ℕ
-stored_at h work (At r) cur = store_slot h work r cur
-stored_at h work Nothing cur = work
+abbrev pub stored_at : ℕ → List ℕ → Option ℕ → List ℕ → List ℕ
+stored_at h work (Some r) cur = store_slot h work r cur
+stored_at h work None cur = work
 
 -- and that slot is taken then
-abbrev pub taken_with : List Bool → Highest → List Bool
-taken_with taken (At r) = set taken r true
-taken_with taken Nothing = taken
+abbrev pub taken_with : List Bool → Option ℕ → List Bool
+taken_with taken (Some r) = set taken r true
+taken_with taken None = taken
 
 -- the answer, the pair in hand, the work memory and the array of the slots that are taken, as `insert` leaves them
-pub record Inserts (h : ℕ) (work : List ℕ) (taken : List Bool) (rows : ℕ) (cur : List ℕ) (answer : Highest) (left after : List ℕ)
+pub record Inserts (h : ℕ) (work : List ℕ) (taken : List Bool) (rows : ℕ) (cur : List ℕ) (answer : Option ℕ) (left after : List ℕ)
     (taken_after : List Bool) : Type 0 where
   pub settles : Settles h work taken rows cur answer left
   pub stored : after ≡ stored_at h work answer left
@@ -90,6 +87,6 @@ Pivots h work taken = (r : ℕ) → taken_at taken r ≡ true → slot_rows h wo
 
 -- What holds where a reduction has settled, if P is kept on the way: it is through with all rows, or it is stuck at a
 -- row that is held and whose slot, of the table R, is vacant.
-abbrev pub Ends : (ℕ → Chain → Chain → Type 0) → (ℕ → Chain) → Highest → Chain → Chain → Type 0
-Ends P R (At r) c v = P (suc r) c v × (c r ≡ true) × (R r r ≡ false)
-Ends P R Nothing c v = P 0 c v
+abbrev pub Ends : (ℕ → Chain → Chain → Type 0) → (ℕ → Chain) → Option ℕ → Chain → Chain → Type 0
+Ends P R (Some r) c v = P (suc r) c v × (c r ≡ true) × (R r r ≡ false)
+Ends P R None c v = P 0 c v

@@ -1,6 +1,6 @@
 -- The reduction on chains. The halves of a sum are sums, so each row does to the two chains in hand what it does to the
 -- bytes: at a row that is held and whose slot is taken, the slot's chains are added.
-use Rattle.std.specs.Prelude.{ℕ, suc, ◌*◌, ◌≤◌, ◌<◌, ◌≡◌, refl, Bool, true, false, List, length}
+use Rattle.std.specs.Prelude.{ℕ, suc, ◌*◌, ◌≤◌, ◌<◌, ◌≡◌, refl, Bool, true, false, List, length, Option}
 use Rattle.std.proofs.Common.{sym, ap, ◌∙◌, subst, subst₂, arith}
 use Rattle.chains.specs.Chain.{Chain, ◌⊕◌, empty, only}
 use Rattle.columns.specs.ColumnLaws.{length-xor}
@@ -10,7 +10,6 @@ use Rattle.columns.specs.Reduce.{held_at, red_row, red_bytes, Settles, Ends}
 use Rattle.columns.specs.Reduce.{slot_rows, slot_columns, taken_only, kept_rows, kept_columns, Pivots}
 use Rattle.columns.specs.ReduceLaws.{row-add, row-not-held, row-not-taken, unstuck-taken}
 use Rattle.columns.specs.ReduceLaws.{stuck-held, stuck-not-taken, by_rows, by-settling}
-use Rattle.columns.specs.declared.Highest.{Highest}
 
 -- ---- what counts of a slot: all that it holds, where it is taken, and else nothing
 
@@ -56,11 +55,11 @@ module _ (h : ℕ) (work : List ℕ) (taken : List Bool) (room : room_of h ≤ l
         )
 
     -- the reduction that stops where it is stuck
-    pub settle-chains : (cur : List ℕ) (answer : Highest) (left : List ℕ) → Settles h work taken n cur answer left
+    pub settle-chains : (cur : List ℕ) (answer : Option ℕ) (left : List ℕ) → Settles h work taken n cur answer left
         → length cur ≡ 2 * h → P n (chain_r h cur) (chain_v h cur)
         → Ends P (kept_rows h work taken) answer (chain_r h left) (chain_v h left)
     settle-chains cur answer left s whole top =
-        subst₂ (λ (a : Highest) (l : List ℕ). Ends P (kept_rows h work taken) a (chain_r h l) (chain_v h l))
+        subst₂ (λ (a : Option ℕ) (l : List ℕ). Ends P (kept_rows h work taken) a (chain_r h l) (chain_v h l))
         (sym s.where-stuck) (sym s.what-left)
         (by-settling h work taken In (λ t. Ends P (kept_rows h work taken) t.at (chain_r h t.cur) (chain_v h t.cur)) n cur
         (λ r c l p q. in_row r c l p (unstuck-taken h work taken r c q))

@@ -1,7 +1,7 @@
 -- Laws of the reduction. A row either leaves the pair in hand as it is or adds a slot to it, so what holds at the top
 -- and is kept by each row holds at the bottom.
 use Prim.Native.Nat.{ℕ, zero, suc, ◌≤◌, ◌<◌}
-use Rattle.std.specs.Prelude.{◌≡◌, Bool, ◌&&◌, cond, List}
+use Rattle.std.specs.Prelude.{◌≡◌, Bool, ◌&&◌, cond, List, Option, Some, None}
 use Rattle.std.proofs.Math.Path.{refl, sym, ap, subst}
 use Rattle.std.proofs.Common.{◌∙◌, arith}
 use Rattle.std.proofs.Math.Bool.{true, false, not}
@@ -13,8 +13,6 @@ use Rattle.columns.specs.ColumnLaws.{length-xor}
 use Rattle.chains.specs.Chain.{Under}
 use Rattle.columns.specs.Slot.{chain_r, slot, taken_at}
 use Rattle.columns.specs.Reduce.{held_at, red_row, red_bytes, stuck_at, Settled, settled, rows_left, Inserts}
-use Rattle.columns.specs.declared.Highest.{Highest}
-use Rattle.columns.specs.declared.Highest.TheVariants.{At, Nothing}
 
 -- ---- one row
 
@@ -102,7 +100,7 @@ module _ (h : ℕ) (work : List ℕ) (taken : List Bool) where
   -- ---- up to the first row that is stuck
 
   pub settled-stuck : (r : ℕ) (cur : List ℕ) → stuck_at h taken r cur ≡ true
-      → settled h work taken (suc r) cur ≡ record { at = At r; cur = cur }
+      → settled h work taken (suc r) cur ≡ record { at = Some r; cur = cur }
   unfolding settled
   settled-stuck r cur e = rw e refl
 
@@ -123,7 +121,7 @@ module _ (h : ℕ) (work : List ℕ) (taken : List Bool) where
       n l none
 
   -- so an insertion that begins above the highest row that is held is one that begins at any row higher up
-  pub inserts-from : {top n : ℕ} {cur left after : List ℕ} {taken_after : List Bool} {answer : Highest} → top ≤ n
+  pub inserts-from : {top n : ℕ} {cur left after : List ℕ} {taken_after : List Bool} {answer : Option ℕ} → top ≤ n
       → Under top (chain_r h cur) → Inserts h work taken top cur answer left after taken_after → Inserts h work taken n cur answer left after taken_after
   inserts-from {top} {n} {cur} le low s =
       let same : settled h work taken n cur ≡ settled h work taken top cur = settled-skip top n cur le (λ j from below. low j from) in
@@ -139,8 +137,8 @@ module _ (h : ℕ) (work : List ℕ) (taken : List Bool) where
   -- what each row keeps holds where the reduction settles: stuck at a row, or through with all of them
   pub by-settling : (P : ℕ → List ℕ → Type 0) (Q : Settled → Type 0) (n : ℕ) (cur : List ℕ)
       → ((r : ℕ) (c : List ℕ) → r < n → P (suc r) c → stuck_at h taken r c ≡ false → P r (red_row h work taken r c))
-      → ((r : ℕ) (c : List ℕ) → r < n → P (suc r) c → stuck_at h taken r c ≡ true → Q (record { at = At r; cur = c }))
-      → ((c : List ℕ) → P 0 c → Q (record { at = Nothing; cur = c })) → P n cur → Q (settled h work taken n cur)
+      → ((r : ℕ) (c : List ℕ) → r < n → P (suc r) c → stuck_at h taken r c ≡ true → Q (record { at = Some r; cur = c }))
+      → ((c : List ℕ) → P 0 c → Q (record { at = None; cur = c })) → P n cur → Q (settled h work taken n cur)
   unfolding settled
   by-settling P Q zero cur step stop end top = end cur top
   by-settling P Q (suc n) cur step stop end top =
@@ -171,10 +169,10 @@ module _ (h : ℕ) (work : List ℕ) (taken : List Bool) where
       (λ r c l e q. length-row h work taken r c ∙ e) (λ r c l e q. e) (λ c e. e) refl
 
   -- where it is stuck
-  pub settled_at : (n : ℕ) (cur : List ℕ) (r : ℕ) → (settled h work taken n cur).at ≡ At r
+  pub settled_at : (n : ℕ) (cur : List ℕ) (r : ℕ) → (settled h work taken n cur).at ≡ Some r
       → (r < n) × (stuck_at h taken r (settled h work taken n cur).cur ≡ true)
   settled_at n cur r =
-      by-settling (λ m c. Unit {0}) (λ s. s.at ≡ At r → (r < n) × (stuck_at h taken r s.cur ≡ true)) n cur
+      by-settling (λ m c. Unit {0}) (λ s. s.at ≡ Some r → (r < n) × (stuck_at h taken r s.cur ≡ true)) n cur
       (λ m c l u q. tt)
       (λ m c l u q e. let same : m ≡ r = cc in (omega arith, subst (λ (k : ℕ). stuck_at h taken k c ≡ true) same q))
       (λ c u e. absurd (let z : ◌≡◌ {A = ℕ} 0 1 = cc in omega arith))

@@ -1,20 +1,14 @@
 -- The search for the highest rank that a chain holds below a bound, as `next_down` answers it: the definition, its
 -- equations, and what each answer means.
-use Rattle.std.specs.Prelude.{ℕ, zero, suc, ◌≤◌, ◌<◌, ◌≡◌, refl, Bool, true, false}
+use Rattle.std.specs.Prelude.{ℕ, zero, suc, ◌≤◌, ◌<◌, ◌≡◌, refl, Bool, true, false, cond, Option, Some, None}
 use Rattle.std.proofs.Common.{sym, ap, ◌∙◌, subst, arith}
 use Rattle.std.proofs.Math.Decide.{ℕ_discrete, le_ind}
 use Rattle.chains.specs.Chain.{Chain}
-use Rattle.columns.specs.declared.Highest.{Highest}
-use Rattle.columns.specs.declared.Highest.TheVariants.{At, Nothing}
-
-abbrev pub pick_highest : Bool → Highest → Highest → Highest
-pick_highest true a b = a
-pick_highest false a b = b
 
 -- the highest rank below n that c holds
-unfoldable pub highest_below : Chain → ℕ → Highest
-highest_below c zero = Nothing
-highest_below c (suc n) = pick_highest (c n) (At n) (highest_below c n)
+unfoldable pub highest_below : Chain → ℕ → Option ℕ
+highest_below c zero = None
+highest_below c (suc n) = cond (c n) (Some n) (highest_below c n)
 
 -- i is the highest rank below n that c holds
 pub record HighestAt (c : Chain) (n i : ℕ) : Type 0 where
@@ -24,13 +18,13 @@ pub record HighestAt (c : Chain) (n i : ℕ) : Type 0 where
 
 -- ---- the equations
 
-pub highest-held : (c : Chain) (n : ℕ) → c n ≡ true → highest_below c (suc n) ≡ At n
+pub highest-held : (c : Chain) (n : ℕ) → c n ≡ true → highest_below c (suc n) ≡ Some n
 unfolding highest_below
-highest-held c n e = ap (λ (b : Bool). pick_highest b (At n) (highest_below c n)) e
+highest-held c n e = ap (λ (b : Bool). cond b (Some n) (highest_below c n)) e
 
 pub highest-not-held : (c : Chain) (n : ℕ) → c n ≡ false → highest_below c (suc n) ≡ highest_below c n
 unfolding highest_below
-highest-not-held c n e = ap (λ (b : Bool). pick_highest b (At n) (highest_below c n)) e
+highest-not-held c n e = ap (λ (b : Bool). cond b (Some n) (highest_below c n)) e
 
 -- ranks that c does not hold are passed over
 pub highest-skip : (c : Chain) (k n : ℕ) → k ≤ n → ((j : ℕ) → k ≤ j → j < n → c j ≡ false) → highest_below c n ≡ highest_below c k
@@ -46,12 +40,12 @@ highest-skip c k n l none =
 one_more : (c : Chain) (n i : ℕ) → c n ≡ false → ((j : ℕ) → i ≤ j → j < n → c j ≡ false) → (j : ℕ) → i ≤ j → j < suc n → c j ≡ false
 one_more c n i e h j p q = elim (ℕ_discrete j n) [ yes s ↦ ap c s ∙ e | no s ↦ h j p (omega arith) ]
 
-pub highest-at : (c : Chain) (n i : ℕ) → highest_below c n ≡ At i → HighestAt c n i
+pub highest-at : (c : Chain) (n i : ℕ) → highest_below c n ≡ Some i → HighestAt c n i
 unfolding highest_below
 highest-at c zero i e = absurd (let z : ◌≡◌ {A = ℕ} 0 1 = cc in omega arith)
 highest-at c (suc n) i e = go (c n) refl (highest-at c n i)
   where
-    go : (b : Bool) → c n ≡ b → (highest_below c n ≡ At i → HighestAt c n i) → HighestAt c (suc n) i
+    go : (b : Bool) → c n ≡ b → (highest_below c n ≡ Some i → HighestAt c n i) → HighestAt c (suc n) i
     go true h rec =
         let same : n ≡ i = cc (highest-held c n h) in
         subst (λ (m : ℕ). HighestAt c (suc n) m) same (record { below = omega arith; holds = h; above = λ j p q. absurd (omega arith) })
@@ -59,11 +53,11 @@ highest-at c (suc n) i e = go (c n) refl (highest-at c n i)
         let lower : HighestAt c n i = rec (sym (highest-not-held c n h) ∙ e) in
         record { below = omega arith; holds = lower.holds; above = λ j p q. one_more c n (suc i) h lower.above j p q }
 
-pub highest-nothing : (c : Chain) (n : ℕ) → highest_below c n ≡ Nothing → (j : ℕ) → j < n → c j ≡ false
+pub highest-nothing : (c : Chain) (n : ℕ) → highest_below c n ≡ None → (j : ℕ) → j < n → c j ≡ false
 unfolding highest_below
 highest-nothing c zero e j l = absurd (omega arith)
 highest-nothing c (suc n) e j l = go (c n) refl (highest-nothing c n)
   where
-    go : (b : Bool) → c n ≡ b → (highest_below c n ≡ Nothing → (j : ℕ) → j < n → c j ≡ false) → c j ≡ false
+    go : (b : Bool) → c n ≡ b → (highest_below c n ≡ None → (j : ℕ) → j < n → c j ≡ false) → c j ≡ false
     go true h rec = absurd (let z : ◌≡◌ {A = ℕ} 0 1 = cc (highest-held c n h) in omega arith)
     go false h rec = one_more c n 0 h (λ j p q. rec (sym (highest-not-held c n h) ∙ e) j q) j (omega arith) l

@@ -4,10 +4,10 @@
 // the memory need not be touched before the first column.
 #![tactic(auto)]
 
-ghost use Rattle.std.specs.Prelude.{◌≡◌, ◌+◌, ◌*◌, ◌≤◌, ◌<◌, true, length, set, take, replicate};
-ghost use Rattle.columns.specs.Column.{bit, bit_at, chain_of, xor_bytes, flipped, cleared_front};
+ghost use Rattle.std.specs.Prelude.{◌≡◌, ◌+◌, ◌*◌, ◌≤◌, ◌<◌, length, take, replicate};
+ghost use Rattle.columns.specs.Column.{bit, bit_at, chain_of, xor_bytes, flipped};
 ghost use Rattle.columns.specs.Slot.{room_of, slot, store_slot};
-ghost use Rattle.columns.specs.Word.{WordAt, HighestBit};
+ghost use Rattle.columns.specs.Word.{WordAt};
 ghost use Rattle.columns.specs.Search.{highest_below};
 ghost use Rattle.columns.specs.Reduce.{red_bytes, Settles, Inserts};
 
@@ -16,8 +16,7 @@ pub fn test(col: &[u8], i: usize) -> bool
     requires { i < 8 * length col.now }
     ensures { result ≡ bit_at col.now i }
 {
-    let at = i / 8;
-    (col[at] >> (i % 8)) % 2 == 1
+    (col[i / 8] >> (i % 8)) % 2 == 1
 }
 
 // Turns rank i over: puts it in, or takes it out.
@@ -25,8 +24,7 @@ pub fn flip(col: &mut [u8], i: usize)
     requires { i < 8 * length col.old }
     ensures { col.new ≡ flipped col.old i }
 {
-    let at = i / 8;
-    col[at] = col[at] ^ (1u8 << (i % 8));
+    col[i / 8] ^= 1 << (i % 8);
 }
 
 // Adds the first n bytes of src to dst.
@@ -34,22 +32,8 @@ pub fn add(dst: &mut [u8], src: &[u8], n: usize)
     requires { (n ≤ length dst.old) × (n ≤ length src.now) }
     ensures { dst.new ≡ xor_bytes dst.old (take n src.now) }
 {
-    let mut i = 0;
-    while i < n {
-        dst[i] = dst[i] ^ src[i];
-        i += 1;
-    }
-}
-
-// Makes the first n bytes zero.
-pub fn clear_front(bytes: &mut [u8], n: usize)
-    requires { n ≤ length bytes.old }
-    ensures { bytes.new ≡ cleared_front n bytes.old }
-{
-    let mut i = 0;
-    while i < n {
-        bytes[i] = 0;
-        i += 1;
+    for i in 0..n {
+        dst[i] ^= src[i];
     }
 }
 
@@ -57,15 +41,7 @@ pub fn clear_front(bytes: &mut [u8], n: usize)
 pub fn clear(bytes: &mut [u8])
     ensures { bytes.new ≡ replicate (length bytes.old) 0 }
 {
-    let n = bytes.len();
-    clear_front(bytes, n);
-}
-
-// What a search for the highest rank finds.
-#[derive(Clone, Copy)]
-pub enum Highest {
-    At(usize),
-    Nothing,
+    bytes.fill(0);
 }
 
 // The eight bytes from `at` on as one number.
@@ -73,44 +49,24 @@ fn word_at(col: &[u8], at: usize) -> u64
     requires { at + 8 ≤ length col.now }
     ensures { WordAt col.now at result }
 {
-    let mut word: u64 = 0;
-    let mut left = 8;
-    while 0 < left {
-        left -= 1;
-        word = word * 256 + col[at + left] as u64;
-    }
-    word
-}
-
-// The highest bit of a word that is not zero. The compiler knows this loop and makes one instruction of it.
-fn highest_bit(word: u64) -> usize
-    ensures { 0 < word → HighestBit word result }
-{
-    let mut n = 0;
-    let mut rest = word / 2;
-    while 0 < rest {
-        rest = rest / 2;
-        n += 1;
-    }
-    n
+    u64::from_le_bytes(col[at..at + 8].try_into().unwrap())
 }
 
 // The highest rank below `from` that the column holds, by a look at each.
-pub fn next_down(col: &[u8], from: usize) -> Highest
+pub fn next_down(col: &[u8], from: usize) -> Option<usize>
     requires { from ≤ 8 * length col.now }
     ensures { result ≡ highest_below (chain_of col.now) from }
 {
-    let mut i = from;
-    while i > 0 {
-        i -= 1;
+    for i in (0..from).rev() {
         if test(col, i) {
-            return Highest::At(i);
+            return Some(i);
         }
     }
-    Highest::Nothing
+    None
 }
 
 // Adds slot r to the pair of columns in hand.
+#[tactic(auto, using(crate::proofs::Laws::slot_bounds))]
 pub fn add_slot(cur: &mut [u8], work: &[u8], h: usize, r: usize)
     requires r_bound { r < 8 * h }
     requires h_in_bounds { room_of h ≤ length work.now }
@@ -124,6 +80,7 @@ pub fn add_slot(cur: &mut [u8], work: &[u8], h: usize, r: usize)
 }
 
 // Puts the pair of columns in hand into slot r.
+#[tactic(auto, using(crate::proofs::Laws::slot_bounds))]
 pub fn store_slot(work: &mut [u8], cur: &[u8], h: usize, r: usize)
     requires r_bound { r < 8 * h }
     requires h_in_bounds { room_of h ≤ length work.old }
@@ -132,45 +89,34 @@ pub fn store_slot(work: &mut [u8], cur: &[u8], h: usize, r: usize)
 {
     let size = 2 * h;
     let from = r * size;
-    let mut j = 0;
-    while j < size {
-        work[from + j] = cur[j];
-        j += 1;
-    }
-}
-
-// Says that slot r holds a column.
-fn take_slot(taken: &mut [bool], r: usize)
-    requires { r < length taken.old }
-    ensures { taken.new ≡ set taken.old r true }
-{
-    taken[r] = true;
+    let to = from + size;
+    work[from..to].copy_from_slice(&cur[..size]);
 }
 
 // The highest bit that a word holds below bit `left`. The bit just below is looked at first, since in a full column it is the
 // answer as often as not.
-fn highest_in(word: u64, left: usize) -> Highest
+fn highest_in(word: u64, left: usize) -> Option<usize>
     requires { left ≤ 64 }
     ensures { result ≡ highest_below (bit word) left }
 {
     if left == 0 {
-        return Highest::Nothing;
+        return None;
     }
     let last = left - 1;
     if (word >> last) % 2 == 1 {
-        return Highest::At(last);
+        return Some(last);
     }
-    let below = word % (1u64 << last);
+    let below = word % (1 << last);
     if below == 0 {
-        return Highest::Nothing;
+        return None;
     }
-    Highest::At(highest_bit(below))
+    Some(below.ilog2() as usize)
 }
 
 // Reduces the pair in hand by the slots, from row `rows` - 1 down, until it holds a row whose slot
 // is not taken, and says which. The eight bytes that hold the next row are kept as one number, `word`, beside the pair and
 // added to as it is: so the search for that row does not wait until the sum is in the memory and read again.
-pub fn settle(cur: &mut [u8], work: &[u8], taken: &[bool], h: usize, rows: usize) -> Highest
+pub fn settle(cur: &mut [u8], work: &[u8], taken: &[bool], h: usize, rows: usize) -> Option<usize>
     requires rows_bound { rows ≤ 8 * h }
     requires h_in_bounds { room_of h ≤ length work.now }
     requires cur_len { length cur.old ≡ 2 * h }
@@ -182,24 +128,23 @@ pub fn settle(cur: &mut [u8], work: &[u8], taken: &[bool], h: usize, rows: usize
     let mut left = rows % 64;
     let mut word = word_at(cur, at);
     loop {
-        let found = highest_in(word, left);
-        match found {
-            Highest::Nothing => {
+        match highest_in(word, left) {
+            None => {
                 if at == 0 {
-                    return Highest::Nothing;
+                    return None;
                 }
                 at -= 8;
                 left = 64;
                 word = word_at(cur, at);
             }
-            Highest::At(bit) => {
+            Some(bit) => {
                 let r = at * 8 + bit;
                 if taken[r] {
                     add_slot(cur, work, h, r);
-                    word = word ^ word_at(work, r * (2 * h) + at);
+                    word ^= word_at(work, r * (2 * h) + at);
                     left = bit;
                 } else {
-                    return Highest::At(r);
+                    return Some(r);
                 }
             }
         }
@@ -208,7 +153,13 @@ pub fn settle(cur: &mut [u8], work: &[u8], taken: &[bool], h: usize, rows: usize
 
 // Puts what is left of the pair in hand into the slot of its highest row, which is taken then, unless
 // nothing is left.
-pub fn insert(work: &mut [u8], cur: &mut [u8], taken: &mut [bool], h: usize, rows: usize) -> Highest
+pub fn insert(
+    work: &mut [u8],
+    cur: &mut [u8],
+    taken: &mut [bool],
+    h: usize,
+    rows: usize,
+) -> Option<usize>
     requires rows_bound { rows ≤ 8 * h }
     requires h_in_bounds { room_of h ≤ length work.old }
     requires cur_len { length cur.old ≡ 2 * h }
@@ -217,9 +168,9 @@ pub fn insert(work: &mut [u8], cur: &mut [u8], taken: &mut [bool], h: usize, row
     ensures { Inserts h work.old taken.old rows cur.old result cur.new work.new taken.new }
 {
     let found = settle(cur, work, taken, h, rows);
-    if let Highest::At(r) = found {
+    if let Some(r) = found {
         store_slot(work, cur, h, r);
-        take_slot(taken, r);
+        taken[r] = true;
     }
     found
 }
@@ -234,11 +185,7 @@ pub fn reduce(cur: &mut [u8], work: &[u8], taken: &[bool], h: usize, rows: usize
     ensures { cur.new ≡ red_bytes h work.now taken.now rows cur.old }
 {
     let mut left = rows;
-    loop {
-        let found = settle(cur, work, taken, h, left);
-        let Highest::At(r) = found else {
-            return;
-        };
+    while let Some(r) = settle(cur, work, taken, h, left) {
         left = r;
     }
 }

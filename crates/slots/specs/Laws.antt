@@ -1,6 +1,6 @@
 -- Why the calls do so: each row of the reduction is a turn of the loop that crate `echelon` speaks of, so a reduction
 -- that is through, or that is stuck, is one of its endings.
-use Rattle.std.specs.Prelude.{ℕ, zero, suc, ◌*◌, ◌≤◌, ◌<◌, ◌≡◌, refl, Bool, true, false, ◌≢◌, List, length, set, replicate}
+use Rattle.std.specs.Prelude.{ℕ, zero, suc, ◌*◌, ◌≤◌, ◌<◌, ◌≡◌, refl, Bool, true, false, ◌≢◌, List, length, set, replicate, Option, Some, None, is_none}
 use Rattle.std.proofs.Common.{sym, ◌∙◌, ap, ap₂, subst, subst₂, arith, get_or-set_same, get_or-set_other}
 use Rattle.std.proofs.lemmas.Bool.{false≢true}
 use Rattle.std.proofs.Math.Decide.{ℕ_discrete}
@@ -14,16 +14,7 @@ use Rattle.columns.specs.Reduce.{red_bytes, Settled, settled, Settles, Inserts, 
 use Rattle.columns.specs.Reduce.{slot_rows, slot_columns, taken_only, kept_rows, Pivots}
 use Rattle.columns.specs.ReduceLaws.{stuck, settled-stuck, inserts-from, length-settled, settled_at}
 use Rattle.columns.specs.ReduceChains.{kept-vacant, settle-chains, red-chains}
-use Rattle.columns.specs.declared.Highest.{Highest}
-use Rattle.columns.specs.declared.Highest.TheVariants.{At, Nothing}
 use Rattle.slots.specs.Slots.{SlotsIn, PutsIn, Answers, FillsIn, ClassesIn}
-use Rattle.slots.specs.declared.Filled.{Filled}
-use Rattle.slots.specs.declared.Filled.TheVariants as filled
-
--- what a fill answers, by the row at which the reduction of the chain got stuck, if it did
-abbrev pub filled_at : Highest → Filled
-filled_at (At r) = filled.None
-filled_at Nothing = filled.Found
 
 none-taken : (l r : ℕ) → taken_at (replicate l false) r ≡ false
 none-taken zero r = refl
@@ -73,7 +64,7 @@ module _ (h : ℕ) (work : List ℕ) (taken : List Bool) (room : room_of h ≤ l
 module _ {h m : ℕ} {work : List ℕ} {taken : List Bool} {cur : List ℕ} (low : m ≤ 8 * h) (room : room_of h ≤ length work)
     (whole : length cur ≡ 2 * h) where
   -- A reduction that has settled is one of the endings, whatever chain was in hand.
-  settled-reducing : {D : ℕ → Chain} {n k : ℕ} {start first : Chain} {answer : Highest} {left : List ℕ}
+  settled-reducing : {D : ℕ → Chain} {n k : ℕ} {start first : Chain} {answer : Option ℕ} {left : List ℕ}
       → SlotsIn h work taken D n m k → Settles h work taken m cur answer left → Under m start
       → chain_r h cur ≡ start → chain_v h cur ≡ first
       → Ends (Reducing D n k start first) (kept_rows h work taken) answer (chain_r h left) (chain_v h left)
@@ -85,7 +76,7 @@ module _ {h m : ℕ} {work : List ℕ} {taken : List Bool} {cur : List ℕ} (low
       (subst₂ (Reducing D n k start first m) (sym er) (sym ev) (reducing-start D n m k start first u))
 
   -- an insertion may begin at any row above those that the pair holds
-  pub puts-in : {top : ℕ} {answer : Highest} {left after : List ℕ} {taken_after : List Bool} → top ≤ length taken
+  pub puts-in : {top : ℕ} {answer : Option ℕ} {left after : List ℕ} {taken_after : List Bool} → top ≤ length taken
       → top ≤ m → Under top (chain_r h cur) → Inserts h work taken top cur answer left after taken_after → PutsIn h m work taken cur after taken_after
   puts-in {top} {answer} {left} {after} {taken_after} listed le held from-top = record { next = next }
     where
@@ -101,11 +92,11 @@ module _ {h m : ℕ} {work : List ℕ} {taken : List Bool} {cur : List ℕ} (low
           subst₂ (λ a t. SlotsIn h a t D n m (suc k)) (sym s.stored) (sym s.marked)
           (go answer refl (settled-reducing slots s.settles u er ev))
         where
-          go : (a : Highest) → answer ≡ a
+          go : (a : Option ℕ) → answer ≡ a
               → Ends (Reducing D n k (D k) (unit k)) (kept_rows h work taken) a (chain_r h left) (chain_v h left)
               → SlotsIn h (stored_at h work a left) (taken_with taken a) D n m (suc k)
-          go Nothing e p = record { echelon = insert-dropped lt slots.echelon p; pivots = slots.pivots }
-          go (At r) e p =
+          go None e p = record { echelon = insert-dropped lt slots.echelon p; pivots = slots.pivots }
+          go (Some r) e p =
               let below : r < m = (settled_at h work taken m cur r (sym s.settles.where-stuck ∙ e)).0 in
               let inside : r < 8 * h = omega arith in
               let known : r < length taken =
@@ -121,7 +112,7 @@ module _ {h m : ℕ} {work : List ℕ} {taken : List Bool} {cur : List ℕ} (low
   pub puts-at-once : {top : ℕ} → top < length taken → top < m → Under (suc top) (chain_r h cur) → chain_r h cur top ≡ true
       → taken_at taken top ≡ false → PutsIn h m work taken cur (store_slot h work top cur) (set taken top true)
   puts-at-once {top} listed le under held vacant =
-      let at_top : settled h work taken (suc top) cur ≡ record { at = At top; cur = cur } =
+      let at_top : settled h work taken (suc top) cur ≡ record { at = Some top; cur = cur } =
       settled-stuck h work taken top cur (stuck h work taken top cur held vacant) in
       puts-in listed le under (
       record {
@@ -135,21 +126,19 @@ module _ {h m : ℕ} {work : List ℕ} {taken : List Bool} {cur : List ℕ} (low
       )
 
   -- Through with all rows, what was collected is the smallest filling; stuck, there is none.
-  pub fills-in : {answer a : Highest} {left : List ℕ} → Settles h work taken m cur answer left → answer ≡ a
-      → FillsIn h m work taken cur (filled_at a) left
-  fills-in {answer} {a} {left} s e = record { answers = answers }
+  pub fills-in : {stuck : Option ℕ} {answer : Bool} {left : List ℕ} → Settles h work taken m cur stuck left
+      → answer ≡ is_none stuck → FillsIn h m work taken cur answer left
+  fills-in {stuck} {answer} {left} s told = record { answers = answers }
     where
       answers : (D : ℕ → Chain) (n : ℕ) (A : Chain) → SlotsIn h work taken D n m n → Under m A
-          → chain_r h cur ≡ A → chain_v h cur ≡ empty → Answers D n A (filled_at a) (chain_v h left)
+          → chain_r h cur ≡ A → chain_v h cur ≡ empty → Answers D n A answer (chain_v h left)
       answers D n A slots u er ev =
-          go a e
-          (subst (λ x. Ends (Reducing D n n A empty) (kept_rows h work taken) x (chain_r h left) (chain_v h left)) e
-          (settled-reducing slots s u er ev))
+          subst (λ b. Answers D n A b (chain_v h left)) (sym told) (go stuck refl (settled-reducing slots s u er ev))
         where
-          go : (a : Highest) → answer ≡ a → Ends (Reducing D n n A empty) (kept_rows h work taken) a (chain_r h left) (chain_v h left)
-              → Answers D n A (filled_at a) (chain_v h left)
-          go Nothing e p = fill-found slots.echelon p
-          go (At r) e p =
+          go : (a : Option ℕ) → stuck ≡ a → Ends (Reducing D n n A empty) (kept_rows h work taken) a (chain_r h left) (chain_v h left)
+              → Answers D n A (is_none a) (chain_v h left)
+          go None e p = fill-found slots.echelon p
+          go (Some r) e p =
               let below : r < m = (settled_at h work taken m cur r (sym s.where-stuck ∙ e)).0 in
               fill_none slots.echelon refl p.0 below p.2 p.1
 

@@ -1,12 +1,10 @@
 -- What each call does, as facts about every matrix D: the work memory holds slots, of which those that are taken count
 -- (`SlotsIn`), and the pair in hand holds a chain of rows in its first half and a chain of columns in its second.
-use Rattle.std.specs.Prelude.{ℕ, suc, ◌<◌, ◌≡◌, Bool, List}
+use Rattle.std.specs.Prelude.{ℕ, suc, ◌<◌, ◌≡◌, Bool, true, false, List}
 use Rattle.chains.specs.Chain.{Chain, empty, unit, Under, Fills, SmallestFilling, SmallestInClass}
 use Rattle.echelon.specs.Echelon.{Echelon}
 use Rattle.columns.specs.Slot.{chain_r, chain_v}
 use Rattle.columns.specs.Reduce.{kept_rows, kept_columns, Pivots}
-use Rattle.slots.specs.declared.Filled.{Filled}
-use Rattle.slots.specs.declared.Filled.TheVariants as filled
 
 -- The first k of the n columns of D, each a chain of m rows, are in the slots of the work memory. A slot that is not taken
 -- counts as empty, so this says nothing of its bytes.
@@ -19,13 +17,14 @@ pub record PutsIn (h m : ℕ) (work : List ℕ) (taken : List Bool) (cur after :
   pub next : (D : ℕ → Chain) (n k : ℕ) → k < n → Under m (D k) → SlotsIn h work taken D n m k
       → chain_r h cur ≡ D k → chain_v h cur ≡ unit k → SlotsIn h after taken_after D n m (suc k)
 
--- what an answer says of A and of the chain c that is given with it: c is the smallest filling, or there is none
-abbrev pub Answers : (ℕ → Chain) → ℕ → Chain → Filled → Chain → Type 0
-Answers D n A filled.Found c = SmallestFilling D n A c
-Answers D n A filled.None c = (other : Chain) → Fills D n A other → ⊥
+-- what an answer, whether A has a filling, says of A and of the chain c that is given with it: c is the smallest filling, or
+-- there is none
+abbrev pub Answers : (ℕ → Chain) → ℕ → Chain → Bool → Chain → Type 0
+Answers D n A true c = SmallestFilling D n A c
+Answers D n A false c = (other : Chain) → Fills D n A other → ⊥
 
 -- the pair in hand was the chain A, with no columns yet: now it holds the columns of the answer
-pub record FillsIn (h m : ℕ) (work : List ℕ) (taken : List Bool) (cur : List ℕ) (answer : Filled) (left : List ℕ) : Type 0 where
+pub record FillsIn (h m : ℕ) (work : List ℕ) (taken : List Bool) (cur : List ℕ) (answer : Bool) (left : List ℕ) : Type 0 where
   pub answers : (D : ℕ → Chain) (n : ℕ) (A : Chain) → SlotsIn h work taken D n m n → Under m A
       → chain_r h cur ≡ A → chain_v h cur ≡ empty → Answers D n A answer (chain_v h left)
 

@@ -8,7 +8,7 @@ ghost use Rattle.chains.specs.Chain.{Under};
 ghost use Rattle.columns.specs.Slot.{room_of, chain_r};
 ghost use Rattle.slots.specs.Slots.{PutsIn, FillsIn, ClassesIn};
 
-use columns::{Highest, insert, reduce, settle};
+use columns::{insert, reduce, settle};
 
 // Puts the next column into the slots: the pair in hand is its boundary, which holds no row from `top`
 // on, and its rank alone.
@@ -23,15 +23,8 @@ pub fn insert_column(work: &mut [u8], cur: &mut [u8], taken: &mut [bool], h: usi
     insert(work, cur, taken, h, top);
 }
 
-// Whether a chain has a filling.
-#[derive(Clone, Copy)]
-pub enum Filled {
-    Found,
-    None,
-}
-
-// Fills the chain in hand: where it answers `Found`, the pair in hand then holds the smallest filling.
-pub fn fill_in(cur: &mut [u8], work: &[u8], taken: &[bool], h: usize, rows: usize) -> Filled
+// Fills the chain in hand, if it has a filling, and says whether: if so, the pair in hand then holds the smallest one.
+pub fn fill_in(cur: &mut [u8], work: &[u8], taken: &[bool], h: usize, rows: usize) -> bool
     requires rows_bound { rows ≤ 8 * h }
     requires h_in_bounds { room_of h ≤ length work.now }
     requires cur_len { length cur.old ≡ 2 * h }
@@ -39,11 +32,7 @@ pub fn fill_in(cur: &mut [u8], work: &[u8], taken: &[bool], h: usize, rows: usiz
     requires le_h { 8 ≤ h }
     ensures { FillsIn h rows work.now taken.now cur.old result cur.new }
 {
-    let found = settle(cur, work, taken, h, rows);
-    match found {
-        Highest::At(_) => Filled::None,
-        Highest::Nothing => Filled::Found,
-    }
+    settle(cur, work, taken, h, rows).is_none()
 }
 
 // Makes the chain in hand the smallest of its class.

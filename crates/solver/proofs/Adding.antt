@@ -16,18 +16,19 @@ use Rattle.columns.specs.Slot.{chain_r, chain_v}
 use Rattle.columns.specs.PairLaws.{flipped-r, flipped-r-keeps}
 use Rattle.lookup.specs.Sides.{Sides}
 use Rattle.lookup.specs.SidesLaws.{sides-last}
+use Rattle.solver.specs.declared.Matrix.{Matrix}
 use Rattle.solver.specs.Columns.{MatrixIn, SidesWithin, AddsBoundary}
 use Rattle.solver.proofs.Facets.{left_over, all_left, none_left, last-left}
 
 -- EACH COLUMN of a matrix has its sides, so what is said of all simplices with these sides is said of it.
-pub column-sides : {h size m n i : ℕ} {sides : List ℕ} (k : MatrixIn h size m sides n) → i < n
-    → Sides k.rows (get_or k.high i []) size (get_or sides i 0)
-column-sides {i = i} {sides = sides} k lt =
-    subst (λ (w : ℕ). Sides k.rows (get_or k.high i []) w (get_or sides i 0)) (k.wide i lt) (k.sided.own i lt)
+pub column-sides : {h i : ℕ} {matrix : Matrix} (k : MatrixIn h matrix) → i < matrix.columns
+    → Sides k.rows (get_or k.high i []) matrix.width (get_or matrix.sides.now i 0)
+column-sides {i = i} {matrix = matrix} k lt =
+    subst (λ (w : ℕ). Sides k.rows (get_or k.high i []) w (get_or matrix.sides.now i 0)) (k.wide i lt) (k.sided.own i lt)
 
 -- and they lie within every column that has room for all rows
-pub column-within : {h size m n i room : ℕ} {sides : List ℕ} (k : MatrixIn h size m sides n) → i < n → 8 * h ≤ room
-    → SidesWithin room size (get_or sides i 0)
+pub column-within : {h i room : ℕ} {matrix : Matrix} (k : MatrixIn h matrix) → i < matrix.columns → 8 * h ≤ room
+    → SidesWithin room matrix.width (get_or matrix.sides.now i 0)
 column-within {i = i} k lt fits = record {
   rows = k.rows;
   simplex = get_or k.high i [];

@@ -17,6 +17,10 @@ use Rattle.columns.specs.PairLaws.{flipped-r, flipped-r-keeps, half_r-zeros, hal
 use Rattle.solver.specs.Columns.{marked_chain, Marked}
 use Rattle.lists.specs.declared.Marks.{Marks}
 
+-- a mark among the first m is a mark
+pub mark-at : (m i : ℕ) (on : List Bool) → i < length (take m on) → get_or (take m on) i false ≡ get_or on i false
+mark-at m i on l = get_or-take m on i false (omega (arith, length-take m on))
+
 module _ (marks : Marks) where
   -- a rank of the list is marked where its mark is on, and no other is
   pub marked-below : (m i : ℕ) → i < m → marked_chain m marks i ≡ get_or marks.on i false

@@ -4,10 +4,11 @@ use Prim.Native.Nat.{ℕ, ◌+◌, ◌*◌, ◌≤◌, ◌<◌}
 use native.Mathlib.Omega.{arith}
 use native.Mathlib.Numerals.{add-one}
 use native.Mathlib.Decide.{dec_lt}
-use mathlib.Core.Path.{◌≡◌, sym, ap, ◌∙◌, subst, fun_ext}
+use mathlib.Core.Path.{◌≡◌, refl, sym, ap, ◌∙◌, subst, fun_ext}
 use mathlib.Core.Bool.{Bool, true, false, true≢false, false≢true}
 use mathlib.Core.List.{List, []}
 use lib.ListN.{length, get_or, replicate}
+use Rattle.std.specs.Prelude.{Option, Some, None, is_none}
 use Rattle.chains.specs.Chain.{◌⊕◌, only, boundary}
 use Rattle.chains.specs.Sum.{sum-empty}
 use Rattle.chains.specs.Boundary.{boundary-under}
@@ -18,8 +19,6 @@ use Rattle.columns.specs.Slot.{chain_r}
 use Rattle.columns.specs.SlotLaws.{bit-half_r}
 use Rattle.columns.specs.PairLaws.{half_r-zeros}
 use Rattle.columns.specs.Search.{highest_below, HighestAt, highest-at, highest-nothing}
-use Rattle.columns.specs.declared.Highest.{Highest}
-use Rattle.columns.specs.declared.Highest.TheVariants.{At, Nothing}
 use Rattle.lists.specs.declared.Marks.{Marks}
 use Rattle.solver.specs.Columns.{AddsBoundary}
 use Rattle.solver.specs.Solved.{asked, rim_of, RimTold}
@@ -66,7 +65,7 @@ module _ (lower rows : List Simplex) (marks : Marks) (h : ℕ) where
 
     -- all rows were gone through, and the highest rank was asked for
     module _ (end : length rows ≤ i) (small : length lower ≤ 8 * h) {k : ℕ} (size : k ≡ length lower)
-        {answer : Highest} (searched : answer ≡ highest_below (chain_of cur) k) where
+        {answer : Option ℕ} (searched : answer ≡ highest_below (chain_of cur) k) where
       rim-is : chain_r h cur ≡ rim_of lower rows marks
       rim-is =
           let e : i ≡ length rows = omega (arith, a.within) in
@@ -75,7 +74,7 @@ module _ (lower rows : List Simplex) (marks : Marks) (h : ℕ) where
       rim-bit : (j : ℕ) → j < k → rim_of lower rows marks j ≡ bit_at cur j
       rim-bit j lt = ap (λ c. c j) (sym rim-is) ∙ bit-half_r h cur j (omega (arith, size))
 
-      pub rim-empty : answer ≡ Nothing → RimTold lower rows marks true
+      rim-empty : answer ≡ None → RimTold lower rows marks true
       rim-empty none = record { is_closed = λ e. fun_ext λ j. go j (dec_lt j k); is_open = λ e. absurd (true≢false e) }
         where
           go : (j : ℕ) → Dec (j < k) → rim_of lower rows marks j ≡ false
@@ -84,10 +83,18 @@ module _ (lower rows : List Simplex) (marks : Marks) (h : ℕ) where
               boundary-under (columns lower rows) (length rows) (length lower) (asked rows marks)
               (λ c l. columns-under lower rows c) j (omega (arith, size))
 
-      pub rim-open : {r : ℕ} → answer ≡ At r → RimTold lower rows marks false
+      rim-open : {r : ℕ} → answer ≡ Some r → RimTold lower rows marks false
       rim-open {r} found =
           let top : HighestAt (chain_of cur) k r = highest-at (chain_of cur) k r (sym searched ∙ found) in
           record {
             is_closed = λ e. absurd (false≢true e);
             is_open = λ e empty. true≢false (sym top.holds ∙ sym (rim-bit r top.below) ∙ ap (λ c. c r) empty);
           }
+
+      -- it is told by whether a rank was found
+      pub rim_told : {answered : Bool} → answered ≡ is_none answer → RimTold lower rows marks answered
+      rim_told told = subst (RimTold lower rows marks) (sym told) (go answer refl)
+        where
+          go : (a : Option ℕ) → answer ≡ a → RimTold lower rows marks (is_none a)
+          go None none = rim-empty none
+          go (Some r) found = rim-open found

@@ -10,7 +10,6 @@ use Rattle.format.specs.Simplex.{Simplex, columns}
 use Rattle.format.specs.Matrix.{columns-under}
 use Rattle.columns.specs.Slot.{chain_r, chain_v}
 use Rattle.slots.specs.Slots.{FillsIn, ClassesIn}
-use Rattle.slots.specs.declared.Filled.{Filled}
 use Rattle.lists.specs.declared.Marks.{Marks}
 use Rattle.solver.specs.Columns.{Loads, Marked}
 use Rattle.solver.specs.Solved.{asked, Prepared, FillTold, ClassTold}
@@ -29,7 +28,7 @@ module _ (h : ℕ) (rows cols : List Simplex) (marks : Marks) {m : ℕ} {work : 
 
   module _ (p : Prepared h rows cols marks m work taken cur) {left : List ℕ} where
     -- what the slots answer, they answer of the marked chain
-    pub fill_told : {answer : Filled} → FillsIn h m work taken cur answer left → FillTold rows cols marks answer (chain_v h left)
+    pub fill_told : {answer : Bool} → FillsIn h m work taken cur answer left → FillTold rows cols marks answer (chain_v h left)
     fill_told {answer} f = record {
       says =
           (subst (λ k. FillsIn h k work taken cur answer left) p.loads.size f).answers (columns rows cols) (length cols)

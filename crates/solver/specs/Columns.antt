@@ -7,21 +7,22 @@ use Rattle.lookup.specs.Sides.{Sides, Sided}
 use Rattle.columns.specs.Slot.{chain_r, chain_v}
 use Rattle.slots.specs.Slots.{SlotsIn}
 use Rattle.lists.specs.declared.Marks.{Marks}
+use Rattle.solver.specs.declared.Matrix.{Matrix}
 
--- a matrix in memory: the sides of the columns' simplices, of `size` vertices that rise, among the m rows
-pub record MatrixIn (h size m : ℕ) (sides : List ℕ) (n : ℕ) : Type 0 where
+-- a matrix in memory: the sides of the columns' simplices, of so many vertices that rise, among the rows
+pub record MatrixIn (h : ℕ) (matrix : Matrix) : Type 0 where
   pub rows : List Simplex
   pub high : List Simplex
-  pub row_count : m ≡ length rows
-  pub count : n ≡ length high
-  pub wide : (i : ℕ) → i < n → length (get_or high i []) ≡ size
-  pub some : 0 < size
-  pub most : size ≤ 4
-  pub rising : (i : ℕ) → i < n → rising_from 0 (get_or high i []) ≡ true
-  pub sided : Sided rows high sides n
+  pub row_count : matrix.rows ≡ length rows
+  pub count : matrix.columns ≡ length high
+  pub wide : (i : ℕ) → i < matrix.columns → length (get_or high i []) ≡ matrix.width
+  pub some : 0 < matrix.width
+  pub most : matrix.width ≤ 4
+  pub rising : (i : ℕ) → i < matrix.columns → rising_from 0 (get_or high i []) ≡ true
+  pub sided : Sided rows high matrix.sides.now matrix.columns
   pub few_rows : length rows ≤ 8 * h
   pub few_columns : length high ≤ 8 * h
-  pub room : n ≤ length sides
+  pub room : matrix.columns ≤ length matrix.sides.now
 
 -- the sides are those of a simplex of `size` vertices, and its facets are among n rows at most
 pub record SidesWithin (n size sides : ℕ) : Type 0 where

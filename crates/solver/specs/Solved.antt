@@ -9,7 +9,6 @@ use Rattle.format.specs.Simplex.{Simplex, columns}
 use Rattle.format.specs.Matrix.{columns-under}
 use Rattle.columns.specs.Slot.{chain_r, chain_v}
 use Rattle.slots.specs.Slots.{Answers}
-use Rattle.slots.specs.declared.Filled.{Filled}
 use Rattle.lists.specs.declared.Marks.{Marks}
 use Rattle.solver.specs.Columns.{marked_chain, Loads}
 
@@ -43,15 +42,15 @@ pub record Prepared (h : ℕ) (rows cols : List Simplex) (marks : Marks) (m : �
 
 -- What each answer says of the chain c that comes with it: c is "the smallest d-chain with boundary A", or "no d-chain has
 -- boundary A".
-abbrev pub FillSays : List Simplex → List Simplex → Marks → Filled → Chain → Type 0
+abbrev pub FillSays : List Simplex → List Simplex → Marks → Bool → Chain → Type 0
 FillSays rows cols marks answer c = Answers (columns rows cols) (length cols) (asked rows marks) answer c
 
 -- the answer of a fill question, with the chain that it leaves
-pub record FillTold (rows cols : List Simplex) (marks : Marks) (answer : Filled) (c : Chain) : Type 0 where
+pub record FillTold (rows cols : List Simplex) (marks : Marks) (answer : Bool) (c : Chain) : Type 0 where
   pub says : FillSays rows cols marks answer c
 
--- the same, of the answer that a match found
-pub fill-says : {rows cols : List Simplex} {marks : Marks} {answer a : Filled} {c : Chain}
+-- the same, of the answer as a test of it found it
+pub fill-says : {rows cols : List Simplex} {marks : Marks} {answer a : Bool} {c : Chain}
     → FillTold rows cols marks answer c → answer ≡ a → FillSays rows cols marks a c
 fill-says {rows} {cols} {marks} {c = c} told e = subst (λ x. FillSays rows cols marks x c) e told.says
 

@@ -1,21 +1,30 @@
 // The search for the smallest filling and the smallest chain of a class: the columns of a matrix are
 // put into the slots of the lent work memory, and the asked chain is reduced by them. The simplices of the
-// columns come as their sides, numbers whose digits are the ranks of their facets among the m rows (crate
+// columns come as their sides, numbers whose digits are the ranks of their facets among the rows (crate
 // `lookup`), so nothing is looked up here. `cur` is a lent pair of columns, 2·h bytes, and holds the answer
 // at the end. Which slots hold a column stands in `taken`, all false at first: a slot that is not taken is
 // not read, whatever its bytes are, so the work memory is not touched before the first column.
 #![tactic(auto)]
 
-ghost use Rattle.std.specs.Prelude.{◌≡◌, true, false, List, ◌*◌, ◌≤◌, ◌<◌, max, length, replicate};
+ghost use Rattle.std.specs.Prelude.{◌≡◌, true, false, List, ◌*◌, ◌≤◌, ◌<◌, length, replicate};
 ghost use Rattle.columns.specs.Slot.{room_of, chain_r, chain_v};
 ghost use Rattle.format.specs.Simplex.{Simplex, rising_from};
 ghost use Rattle.lookup.specs.Sides.{Sides};
 ghost use Rattle.solver.specs.Columns.{MatrixIn, SidesWithin, AddsBoundary, HighestSide, WritesColumn, PutsNext, Loads, Marked};
 ghost use Rattle.solver.specs.Solved.{RimTold, FillTold, ClassTold};
 
-use columns::{Highest, clear, flip, next_down};
+use columns::{clear, flip, next_down};
 use lists::{Marks, SimplexList};
-use slots::{Filled, class_in, fill_in, insert_column};
+use slots::{class_in, fill_in, insert_column};
+
+// A matrix: so many columns, each the sides of a simplex of `width` vertices, whose facets are among so many rows.
+#[derive(Clone, Copy)]
+pub struct Matrix<'a> {
+    pub rows: usize,
+    pub sides: &'a [u64],
+    pub columns: usize,
+    pub width: usize,
+}
 
 // Adds the boundary of the simplex of `size` vertices that has these sides to the chain of rows in hand. A simplex
 // has four vertices at most, so its facets are taken off one after the other, which costs less than a loop over `size`.
@@ -40,13 +49,6 @@ pub fn add_boundary(cur: &mut [u8], sides: u64, size: usize)
     flip(cur, (rest / 65536 % 65536) as usize);
 }
 
-// The higher of two ranks.
-fn higher(a: usize, b: usize) -> usize
-    ensures { result ≡ max a b }
-{
-    if a < b { b } else { a }
-}
-
 // The highest of the sides of a simplex of `size` vertices. No two facets of a simplex are the same, so no
 // other facet takes that row out of the boundary again: it is the highest row that the boundary holds.
 fn highest_side(sides: u64, size: usize) -> usize
@@ -56,17 +58,15 @@ fn highest_side(sides: u64, size: usize) -> usize
     if size <= 1 {
         return top;
     }
-    let others = sides / 65536;
-    let top = higher(top, (others % 65536) as usize);
+    let top = top.max((sides / 65536 % 65536) as usize);
     if size <= 2 {
         return top;
     }
-    let others = others / 65536;
-    let top = higher(top, (others % 65536) as usize);
+    let top = top.max((sides / 65536 / 65536 % 65536) as usize);
     if size <= 3 {
         return top;
     }
-    higher(top, (others / 65536 % 65536) as usize)
+    top.max((sides / 65536 / 65536 / 65536 % 65536) as usize)
 }
 
 // Writes the column of a simplex over a pair of columns: its boundary, and its rank alone, the bit `own` of the pair.
@@ -86,30 +86,28 @@ fn put_column(
     work: &mut [u8],
     cur: &mut [u8],
     taken: &mut [bool],
-    m: usize,
-    sides: &[u64],
-    n: usize,
-    size: usize,
+    matrix: Matrix,
     h: usize,
     rank: usize,
 )
-    requires matrix_in { MatrixIn h size m sides.now n }
-    requires rank_lt_n { rank < n }
-    requires m_in_bounds { m ≤ length taken.old }
+    requires matrix_in { MatrixIn h matrix }
+    requires rank_bound { rank < matrix.columns }
+    requires rows_in_bounds { matrix.rows ≤ length taken.old }
     requires h_in_bounds { room_of h ≤ length work.old }
     requires cur_len { length cur.old ≡ 2 * h }
     requires le_h { 8 ≤ h }
-    ensures { (k : MatrixIn h size m sides.now n) → PutsNext h k.rows k.high rank work.old taken.old work.new taken.new }
+    ensures { (k : MatrixIn h matrix.entry) → PutsNext h k.rows k.high rank work.old taken.old work.new taken.new }
 {
-    let top = highest_side(sides[rank], size);
+    let sides = matrix.sides[rank];
+    let top = highest_side(sides, matrix.width);
     let own = 8 * h + rank;
     if taken[top] {
-        write_column(cur, sides[rank], size, own);
+        write_column(cur, sides, matrix.width, own);
         insert_column(work, cur, taken, h, top + 1);
     } else {
         let from = top * (2 * h);
         let to = from + 2 * h;
-        write_column(&mut work[from..to], sides[rank], size, own);
+        write_column(&mut work[from..to], sides, matrix.width, own);
         taken[top] = true;
     }
 }
@@ -118,29 +116,17 @@ fn put_column(
 const NO_SLOTS: [bool; SimplexList::LIMIT] = [false; SimplexList::LIMIT];
 
 // Puts all columns into the slots, of which none is taken before, in rising rank.
-pub fn load(
-    work: &mut [u8],
-    cur: &mut [u8],
-    taken: &mut [bool],
-    m: usize,
-    sides: &[u64],
-    n: usize,
-    size: usize,
-    h: usize,
-)
-    requires matrix_in { MatrixIn h size m sides.now n }
-    requires m_bound { m ≤ 512 }
+pub fn load(work: &mut [u8], cur: &mut [u8], taken: &mut [bool], matrix: Matrix, h: usize)
+    requires matrix_in { MatrixIn h matrix }
+    requires rows_bound { matrix.rows ≤ 512 }
     requires h_in_bounds { room_of h ≤ length work.old }
     requires cur_len { length cur.old ≡ 2 * h }
     requires taken_value { taken.old ≡ replicate 512 false }
     requires le_h { 8 ≤ h }
-    ensures { (k : MatrixIn h size m sides.now n) → Loads h k.rows k.high m work.new taken.new }
+    ensures { (k : MatrixIn h matrix.entry) → Loads h k.rows k.high matrix.entry.rows work.new taken.new }
 {
-    let mut i = 0;
-    while i < n {
-        let rank = i;
-        i += 1;
-        put_column(work, cur, taken, m, sides, n, size, h, rank);
+    for rank in 0..matrix.columns {
+        put_column(work, cur, taken, matrix, h, rank);
     }
 }
 
@@ -151,91 +137,56 @@ pub fn mark(cur: &mut [u8], marks: Marks, m: usize)
     ensures { Marked m marks cur.old cur.new }
 {
     clear(cur);
-    let mut i = 0;
-    while i < m {
-        if marks.on[i] {
+    for (i, &on) in marks.on[..m].iter().enumerate() {
+        if on {
             flip(cur, i);
         }
-        i += 1;
     }
 }
 
-// Whether the boundary of the marked chain is empty: it is a chain of n simplices of `size` vertices each,
-// whose facets are among m.
-pub fn rim_closed(
-    cur: &mut [u8],
-    m: usize,
-    sides: &[u64],
-    n: usize,
-    size: usize,
-    marks: Marks,
-    h: usize,
-) -> bool
-    requires matrix_in { MatrixIn h size m sides.now n }
-    requires n_bound { n ≤ 512 }
+// Whether the boundary of the marked chain of columns is empty.
+pub fn rim_closed(cur: &mut [u8], matrix: Matrix, marks: Marks, h: usize) -> bool
+    requires matrix_in { MatrixIn h matrix }
+    requires columns_bound { matrix.columns ≤ 512 }
     requires cur_len { length cur.old ≡ 2 * h }
-    ensures { (k : MatrixIn h size m sides.now n) → RimTold k.rows k.high marks result }
+    ensures { (k : MatrixIn h matrix.entry) → RimTold k.rows k.high marks result }
 {
     clear(cur);
-    let mut i = 0;
-    while i < n {
-        if marks.on[i] {
-            add_boundary(cur, sides[i], size);
+    for (i, &on) in marks.on[..matrix.columns].iter().enumerate() {
+        if on {
+            add_boundary(cur, matrix.sides[i], matrix.width);
         }
-        i += 1;
     }
-    let found = next_down(cur, m);
-    match found {
-        Highest::At(_) => false,
-        Highest::Nothing => true,
-    }
+    next_down(cur, matrix.rows).is_none()
 }
 
-// Fills the marked chain of rows by columns, the smallest way: where it answers `Found`, the filling is
-// the second half of `cur`.
-pub fn fill(
-    work: &mut [u8],
-    cur: &mut [u8],
-    m: usize,
-    sides: &[u64],
-    n: usize,
-    size: usize,
-    marks: Marks,
-    h: usize,
-) -> Filled
-    requires matrix_in { MatrixIn h size m sides.now n }
-    requires m_bound { m ≤ 512 }
+// Fills the marked chain of rows by columns, the smallest way, and says whether that can be: if so, the filling is the second
+// half of `cur`.
+pub fn fill(work: &mut [u8], cur: &mut [u8], matrix: Matrix, marks: Marks, h: usize) -> bool
+    requires matrix_in { MatrixIn h matrix }
+    requires rows_bound { matrix.rows ≤ 512 }
     requires h_in_bounds { room_of h ≤ length work.old }
     requires cur_len { length cur.old ≡ 2 * h }
     requires le_h { 8 ≤ h }
-    ensures { (k : MatrixIn h size m sides.now n) → FillTold k.rows k.high marks result (chain_v h cur.new) }
+    ensures { (k : MatrixIn h matrix.entry) → FillTold k.rows k.high marks result (chain_v h cur.new) }
 {
     let mut taken = NO_SLOTS;
-    load(work, cur, &mut taken, m, sides, n, size, h);
-    mark(cur, marks, m);
-    fill_in(cur, work, &taken, h, m)
+    load(work, cur, &mut taken, matrix, h);
+    mark(cur, marks, matrix.rows);
+    fill_in(cur, work, &taken, h, matrix.rows)
 }
 
 // Finds the smallest chain in the class of the marked chain of rows: then it is the first half of `cur`.
-pub fn class(
-    work: &mut [u8],
-    cur: &mut [u8],
-    m: usize,
-    sides: &[u64],
-    n: usize,
-    size: usize,
-    marks: Marks,
-    h: usize,
-)
-    requires matrix_in { MatrixIn h size m sides.now n }
-    requires m_bound { m ≤ 512 }
+pub fn class(work: &mut [u8], cur: &mut [u8], matrix: Matrix, marks: Marks, h: usize)
+    requires matrix_in { MatrixIn h matrix }
+    requires rows_bound { matrix.rows ≤ 512 }
     requires h_in_bounds { room_of h ≤ length work.old }
     requires cur_len { length cur.old ≡ 2 * h }
     requires le_h { 8 ≤ h }
-    ensures { (k : MatrixIn h size m sides.now n) → ClassTold k.rows k.high marks (chain_r h cur.new) }
+    ensures { (k : MatrixIn h matrix.entry) → ClassTold k.rows k.high marks (chain_r h cur.new) }
 {
     let mut taken = NO_SLOTS;
-    load(work, cur, &mut taken, m, sides, n, size, h);
-    mark(cur, marks, m);
-    class_in(cur, work, &taken, h, m);
+    load(work, cur, &mut taken, matrix, h);
+    mark(cur, marks, matrix.rows);
+    class_in(cur, work, &taken, h, matrix.rows);
 }

@@ -60,12 +60,12 @@ overflow_add-dim c = omega (arith, small-dim (goal.at.overflow_add-dim c).Start)
 pub overflow_add-dim-2 : goal.overflow_add-dim-2
 overflow_add-dim-2 c = omega (arith, small-dim (goal.at.overflow_add-dim-2 c).Start)
 
-pub overflow_add-dim-3 : goal.overflow_add-dim-3
-overflow_add-dim-3 c = omega (arith, small-dim (goal.at.overflow_add-dim-3 c).Start)
+pub overflow_add-matrix : goal.overflow_add-matrix
+overflow_add-matrix c = omega (arith, small-dim (goal.at.overflow_add-matrix c).Start)
 
 pub class-requires : goal.class-requires
 class-requires c =
-    record { matrix_in = matrix-in c.requires.asking.held c.args.dim _ _ c.numbers_of-sides.ensures (small-dim (goal.at.class-requires c).Start) (m-is (goal.at.class-requires c).After-numbers_of-sides) (n-is (goal.at.class-requires c).After-numbers_of-sides); m_bound = few (goal.at.class-requires c).After-numbers_of-sides; h_in_bounds = omega (arith, room_small, c.requires.in_bounds_2); cur_len = refl; le_h = omega arith }
+    record { matrix_in = matrix-in c.requires.asking.held c.args.dim _ c.numbers_of-sides.ensures (small-dim (goal.at.class-requires c).Start) (m-is (goal.at.class-requires c).After-numbers_of-sides) (n-is (goal.at.class-requires c).After-numbers_of-sides) refl; rows_bound = few (goal.at.class-requires c).After-numbers_of-sides; h_in_bounds = omega (arith, room_small, c.requires.in_bounds_2); cur_len = refl; le_h = omega arith }
 
 pub number_vertices-requires : goal.number_vertices-requires
 number_vertices-requires c =
@@ -80,11 +80,11 @@ unfolding half_r matrix-in
 returns-then-dim-eq0 c = λ k.
     answers-class k c.requires.dim_value _ c.requires.question_value (vertices-listed (goal.at.returns-then-dim-eq0 c).After-number_vertices)
     (c.class.ensures
-    (matrix-in c.requires.asking.held c.args.dim _ _ c.numbers_of-sides.ensures (small-dim (goal.at.returns-then-dim-eq0 c).Start) (m-is (goal.at.returns-then-dim-eq0 c).After-numbers_of-sides) (n-is (goal.at.returns-then-dim-eq0 c).After-numbers_of-sides)))
+    (matrix-in c.requires.asking.held c.args.dim _ c.numbers_of-sides.ensures (small-dim (goal.at.returns-then-dim-eq0 c).Start) (m-is (goal.at.returns-then-dim-eq0 c).After-numbers_of-sides) (n-is (goal.at.returns-then-dim-eq0 c).After-numbers_of-sides) refl))
     c.put_chain.ensures
 
-pub overflow_add-dim-4 : goal.overflow_add-dim-4
-overflow_add-dim-4 c = omega (arith, small-dim (goal.at.overflow_add-dim-4 c).Start)
+pub overflow_add-dim-3 : goal.overflow_add-dim-3
+overflow_add-dim-3 c = omega (arith, small-dim (goal.at.overflow_add-dim-3 c).Start)
 
 pub put_chain-requires-2 : goal.put_chain-requires-2
 put_chain-requires-2 c =
@@ -95,5 +95,5 @@ unfolding half_r matrix-in
 returns c = λ k.
     answers-class k c.requires.dim_value _ c.requires.question_value (rows-listed (goal.at.returns c).After-numbers_of-rows (small-dim (goal.at.returns c).Start))
     (c.class.ensures
-    (matrix-in c.requires.asking.held c.args.dim _ _ c.numbers_of-sides.ensures (small-dim (goal.at.returns c).Start) (m-is (goal.at.returns c).After-numbers_of-sides) (n-is (goal.at.returns c).After-numbers_of-sides)))
+    (matrix-in c.requires.asking.held c.args.dim _ c.numbers_of-sides.ensures (small-dim (goal.at.returns c).Start) (m-is (goal.at.returns c).After-numbers_of-sides) (n-is (goal.at.returns c).After-numbers_of-sides) refl))
     c.put_chain-2.ensures

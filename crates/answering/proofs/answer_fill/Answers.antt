@@ -59,18 +59,18 @@ overflow_add-dim c = omega (arith, small-dim (goal.at.overflow_add-dim c).Start)
 pub overflow_add-dim-2 : goal.overflow_add-dim-2
 overflow_add-dim-2 c = omega (arith, small-dim (goal.at.overflow_add-dim-2 c).Start)
 
-pub overflow_add-dim-3 : goal.overflow_add-dim-3
-overflow_add-dim-3 c = omega (arith, small-dim (goal.at.overflow_add-dim-3 c).Start)
+pub overflow_add-matrix : goal.overflow_add-matrix
+overflow_add-matrix c = omega (arith, small-dim (goal.at.overflow_add-matrix c).Start)
 
 pub fill-filled-requires : goal.fill-filled-requires
 fill-filled-requires c =
-    record { matrix_in = matrix-in c.requires.asking.held c.args.dim _ _ c.numbers_of-sides.ensures (small-dim (goal.at.fill-filled-requires c).Start) (m-is (goal.at.fill-filled-requires c).After-numbers_of-sides) (n-is (goal.at.fill-filled-requires c).After-numbers_of-sides); m_bound = few (goal.at.fill-filled-requires c).After-numbers_of-sides; h_in_bounds = omega (arith, room_small, c.requires.in_bounds_2); cur_len = refl; le_h = omega arith }
+    record { matrix_in = matrix-in c.requires.asking.held c.args.dim _ c.numbers_of-sides.ensures (small-dim (goal.at.fill-filled-requires c).Start) (m-is (goal.at.fill-filled-requires c).After-numbers_of-sides) (n-is (goal.at.fill-filled-requires c).After-numbers_of-sides) refl; rows_bound = few (goal.at.fill-filled-requires c).After-numbers_of-sides; h_in_bounds = omega (arith, room_small, c.requires.in_bounds_2); cur_len = refl; le_h = omega arith }
 
-pub overflow_add-dim-in-Found : goal.overflow_add-dim-in-Found
-overflow_add-dim-in-Found c = omega (arith, small-dim (goal.at.overflow_add-dim-in-Found c).Start)
+pub overflow_add-dim-then-filled : goal.overflow_add-dim-then-filled
+overflow_add-dim-then-filled c = omega (arith, small-dim (goal.at.overflow_add-dim-then-filled c).Start)
 
-pub overflow_add-dim-in-Found-2 : goal.overflow_add-dim-in-Found-2
-overflow_add-dim-in-Found-2 c = omega (arith, small-dim (goal.at.overflow_add-dim-in-Found-2 c).Start)
+pub overflow_add-dim-then-filled-2 : goal.overflow_add-dim-then-filled-2
+overflow_add-dim-then-filled-2 c = omega (arith, small-dim (goal.at.overflow_add-dim-then-filled-2 c).Start)
 
 pub put_chain-requires : goal.put_chain-requires
 put_chain-requires c =
@@ -86,17 +86,17 @@ pub returns-then-not-closed : goal.returns-then-not-closed
 returns-then-not-closed c = λ k.
     answers-open k c.requires.dim_value c.requires.question_value c.rim_closed-closed.ensures c.if-not-closed.true c.refuse.ensures
 
-pub refuse-requires-in-None : goal.refuse-requires-in-None
-refuse-requires-in-None c = omega (arith, c.requires.in_bounds)
+pub refuse-requires-else-filled : goal.refuse-requires-else-filled
+refuse-requires-else-filled c = omega (arith, c.requires.in_bounds)
 
-pub returns-in-Found : goal.returns-in-Found
+pub returns-then-filled : goal.returns-then-filled
 unfolding half_v matrix-in
-returns-in-Found c = λ k.
+returns-then-filled c = λ k.
     answers-patch k c.requires.dim_value c.requires.question_value _
-    (patch-list (goal.at.returns-in-Found c).After-numbers_of-cols (small-dim (goal.at.returns-in-Found c).Start))
+    (patch-list (goal.at.returns-then-filled c).After-numbers_of-cols (small-dim (goal.at.returns-then-filled c).Start))
     (fill-says (c.fill-filled.ensures
-    (matrix-in c.requires.asking.held c.args.dim _ _ c.numbers_of-sides.ensures (small-dim (goal.at.returns-in-Found c).Start) (m-is (goal.at.returns-in-Found c).After-numbers_of-sides) (n-is (goal.at.returns-in-Found c).After-numbers_of-sides)))
-    c.in-Found.is)
+    (matrix-in c.requires.asking.held c.args.dim _ c.numbers_of-sides.ensures (small-dim (goal.at.returns-then-filled c).Start) (m-is (goal.at.returns-then-filled c).After-numbers_of-sides) (n-is (goal.at.returns-then-filled c).After-numbers_of-sides) refl))
+    c.if-filled.true)
     c.put_chain.ensures
 
 pub returns-else-not-closed : goal.returns-else-not-closed
@@ -105,6 +105,6 @@ returns-else-not-closed c = λ k.
     answers-unfilled k c.requires.dim_value c.requires.question_value c.rim_closed-closed.ensures empty
     c.if-not-closed.false
     (fill-says (c.fill-filled.ensures
-    (matrix-in c.requires.asking.held c.args.dim _ _ c.numbers_of-sides.ensures (small-dim (goal.at.returns-else-not-closed c).Start) (m-is (goal.at.returns-else-not-closed c).After-numbers_of-sides) (n-is (goal.at.returns-else-not-closed c).After-numbers_of-sides)))
-    c.in-None.is)
-    c.refuse-in-None.ensures
+    (matrix-in c.requires.asking.held c.args.dim _ c.numbers_of-sides.ensures (small-dim (goal.at.returns-else-not-closed c).Start) (m-is (goal.at.returns-else-not-closed c).After-numbers_of-sides) (n-is (goal.at.returns-else-not-closed c).After-numbers_of-sides) refl))
+    c.if-filled.false)
+    c.refuse-else-filled.ensures

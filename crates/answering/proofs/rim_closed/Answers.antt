@@ -41,10 +41,10 @@ returns-then-dim-eq0 c = rim-none (lists (goal.at.returns-then-dim-eq0 c).Start)
 
 pub rim_closed-requires : goal.rim_closed-requires
 rim_closed-requires c =
-    record { matrix_in = matrix-in c.requires.asking.held (c.args.dim - 1) _ _ c.numbers_of-sides.ensures (below (goal.at.rim_closed-requires c).After-numbers_of-sides) (m-is (goal.at.rim_closed-requires c).After-numbers_of-sides) (n-is (goal.at.rim_closed-requires c).After-numbers_of-sides); n_bound = few (goal.at.rim_closed-requires c).After-numbers_of-sides; cur_len = refl }
+    record { matrix_in = matrix-in c.requires.asking.held (c.args.dim - 1) _ c.numbers_of-sides.ensures (below (goal.at.rim_closed-requires c).After-numbers_of-sides) (m-is (goal.at.rim_closed-requires c).After-numbers_of-sides) (n-is (goal.at.rim_closed-requires c).After-numbers_of-sides) refl; columns_bound = few (goal.at.rim_closed-requires c).After-numbers_of-sides; cur_len = refl }
 
 pub returns : goal.returns
 unfolding matrix-in
 returns c =
     rim-below (lists (goal.at.returns c).Start) _ (some (goal.at.returns c).After-numbers_of-sides) (c.rim_closed.ensures
-    (matrix-in c.requires.asking.held (c.args.dim - 1) _ _ c.numbers_of-sides.ensures (below (goal.at.returns c).After-numbers_of-sides) (m-is (goal.at.returns c).After-numbers_of-sides) (n-is (goal.at.returns c).After-numbers_of-sides)))
+    (matrix-in c.requires.asking.held (c.args.dim - 1) _ c.numbers_of-sides.ensures (below (goal.at.returns c).After-numbers_of-sides) (m-is (goal.at.returns c).After-numbers_of-sides) (n-is (goal.at.returns c).After-numbers_of-sides) refl))

@@ -1,12 +1,8 @@
 -- `fill` loads the slots, which leaves the pair in hand as long as it was, marks the chain in it, and asks what the slots make of it.
 -- Assumes nothing.
-use mathlib.Core.Path.{refl, ◌∙◌}
+use mathlib.Core.Path.{◌∙◌}
 use Rattle.solver.proofs.Solving.{prepared, fill_told}
 use Rattle.solver.proofs.fill.Goals as goal
-
-pub load-requires : goal.load-requires
-load-requires c =
-    record { matrix_in = c.requires.matrix_in; m_bound = c.requires.m_bound; h_in_bounds = c.requires.h_in_bounds; cur_len = c.requires.cur_len; taken_value = refl; le_h = c.requires.le_h }
 
 pub returns : goal.returns
 returns c = λ k.

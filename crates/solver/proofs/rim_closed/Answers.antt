@@ -1,70 +1,43 @@
 -- `rim_closed` adds up the boundaries of the marked rows and looks for a rank in the sum.
 -- Assumes nothing.
 use Prim.Native.Nat.{◌≤◌, ◌<◌}
-use mathlib.Core.Path.{◌≡◌, sym, ◌∙◌}
+use mathlib.Core.Path.{sym, ap, ◌∙◌}
+use mathlib.Core.Bool.{not}
+use Rattle.std.proofs.Math.Bool.{not-not}
 use native.Mathlib.Omega.{arith}
-use lib.ListN.{length}
+use lib.ListN.{length, length-take}
 use Rattle.solver.specs.Columns.{MatrixIn}
-use Rattle.solver.proofs.Adding.{column-sides, column-within}
-use Rattle.solver.proofs.Rimming.{rimming-start, rimming-skip, rimming-add, rim-empty, rim-open}
-use Rattle.solver.proofs.rim_closed.Goals.{then-marks-i, else-marks-i, After-loop-i, At-loop-i}
+use Rattle.solver.proofs.Adding.{column-sides}
+use Rattle.solver.proofs.Marking.{mark-at}
+use Rattle.solver.proofs.Rimming.{rimming-start, rimming-skip, rimming-add, rim_told}
+use Rattle.solver.proofs.rim_closed.Goals.{then-on, else-on, In-loop-i, After-loop-i, At-loop-i}
 use Rattle.solver.proofs.rim_closed.Goals as goal
 
 pub loop-i-init : goal.loop-i-init
 loop-i-init c = λ k.
     rimming-start _ _ _ _ (length c.args.cur.now) _ c.clear.ensures (c.clear.auto.bytes ∙ c.requires.cur_len)
 
--- what was known before the loop
-module _ (p : At-loop-i) where
-  abbrev Matrix : Type 0
-  Matrix =
-      MatrixIn p.args.h p.args.size p.args.m p.args.sides.now p.args.n
-
-  whole : length p.loop-i.cur ≡ length p.args.cur.now
-  whole = (p.loop-i.invariant p.requires.matrix_in).whole ∙ sym p.requires.cur_len
-
-pub bounds-marks-i : goal.bounds-marks-i
-bounds-marks-i c = omega (arith, c.loop-i-test.true, c.requires.n_bound)
-
-pub bounds-sides-i : goal.bounds-sides-i
-bounds-sides-i c =
-    omega (arith, c.loop-i-test.true, c.requires.matrix_in.room)
-
-pub add_boundary-requires : goal.add_boundary-requires
-add_boundary-requires c =
-    column-within c.requires.matrix_in c.loop-i-test.true (omega (arith, whole (goal.at.add_boundary-requires c).At-loop-i, c.requires.cur_len))
+-- the row that is looked at is one of the n
+row_in : (c : In-loop-i) → c.loop-i.i < c.args.matrix.columns
+row_in c = omega (arith, c.loop-i-test.true, length-take c.args.matrix.columns c.args.marks.on)
 
 pub loop-i-preserved : goal.loop-i-preserved
 loop-i-preserved c = λ k.
     let a = c.loop-i.invariant k in
-    let lt : c.loop-i.i < length k.high = omega (arith, c.loop-i-test.true, k.count) in
-    elim c.if-marks-i.branch [
-      | then-marks-i w ↦ rimming-add _ _ _ _ a lt w.if-marks-i.true k.few_rows
-          (w.add_boundary.ensures _ _ (k.wide _ c.loop-i-test.true) k.some k.most (column-sides k c.loop-i-test.true))
-          w.add_boundary.auto.cur w.cur-is
-      | else-marks-i w ↦ rimming-skip _ _ _ _ a lt w.if-marks-i.false w.cur-is
+    let row = row_in (goal.at.loop-i-preserved c).In-loop-i in
+    let lt : c.loop-i.i < length k.high = omega (arith, row, k.count) in
+    let mark = sym (mark-at c.args.matrix.columns c.loop-i.i c.args.marks.on c.loop-i-test.true) in
+    elim c.if-on.branch [
+      | then-on w ↦ rimming-add _ _ _ _ a lt (mark ∙ w.if-on.true) k.few_rows
+          (w.add_boundary.ensures _ _ (k.wide _ row) k.some k.most (column-sides k row)) w.add_boundary.auto.cur w.cur-is
+      | else-on w ↦ rimming-skip _ _ _ _ a lt (mark ∙ w.if-on.false) w.cur-is
     ]
 
-pub next_down-found-requires : goal.next_down-found-requires
-next_down-found-requires c =
-    omega (arith, whole (goal.at.next_down-found-requires c).At-loop-i, c.requires.cur_len, c.requires.matrix_in.row_count, c.requires.matrix_in.few_rows)
-
 -- no row is left
-rows_end : (c : After-loop-i) (k : MatrixIn c.args.h c.args.size c.args.m c.args.sides.now c.args.n) → length k.high ≤ c.loop-i.i
-rows_end c k = omega (arith, c.loop-i-test.false, k.count)
+rows_end : (c : After-loop-i) (k : MatrixIn c.args.h c.args.matrix) → length k.high ≤ c.loop-i.i
+rows_end c k = omega (arith, c.loop-i-test.false, k.count, c.requires.columns_bound, length-take c.args.matrix.columns c.args.marks.on)
 
-pub shape_of-cur-in-At : goal.shape_of-cur-in-At
-shape_of-cur-in-At c = whole (goal.at.shape_of-cur-in-At c).At-loop-i
-
-pub returns-in-At : goal.returns-in-At
-returns-in-At c = λ k.
-    rim-open _ _ _ _ (c.loop-i.invariant k) (rows_end (goal.at.returns-in-At c).After-loop-i k) k.few_rows k.row_count
-    c.next_down-found.ensures c.in-At.is
-
-pub shape_of-cur-in-Nothing : goal.shape_of-cur-in-Nothing
-shape_of-cur-in-Nothing c = whole (goal.at.shape_of-cur-in-Nothing c).At-loop-i
-
-pub returns-in-Nothing : goal.returns-in-Nothing
-returns-in-Nothing c = λ k.
-    rim-empty _ _ _ _ (c.loop-i.invariant k) (rows_end (goal.at.returns-in-Nothing c).After-loop-i k) k.few_rows k.row_count
-    c.next_down-found.ensures c.in-Nothing.is
+pub returns : goal.returns
+returns c = λ k.
+    rim_told _ _ _ _ (c.loop-i.invariant k) (rows_end (goal.at.returns c).After-loop-i k) k.few_rows k.row_count
+    c.next_down.ensures (sym (ap not c.is_none.ensures ∙ not-not c.is_none.result))
