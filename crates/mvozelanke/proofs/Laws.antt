@@ -1,15 +1,12 @@
--- The answer call's promise, case by case: no room, a file that is answered; and what room its lists take.
+-- The answer call's promise, case by case: no room, or a file that is answered.
 use Prim.Native.Nat.{ℕ, ◌≤◌, ◌<◌}
 use mathlib.Core.Path.{◌≡◌, refl, ◌∙◌, ap}
 use mathlib.Core.Logic.{inl, inr}
 use mathlib.Core.List.{List, ◌++◌}
 use native.Mathlib.Nat.{zero-add}
-use native.Mathlib.Omega.{arith}
 use lib.ListN.{length, drop, replicate}
 use Rattle.format.specs.Numbers.{small}
 use Rattle.format.specs.Promise.{AnswerPromise, no_room, answered, over}
-use Rattle.jobs.specs.Meaning.{SizesTold, FileRoom}
-use Rattle.jobs.specs.declared.Sizes.{Sizes}
 use Rattle.writer.specs.Meaning.{Put}
 use Rattle.answering.specs.Meaning.{AnswersFile}
 
@@ -32,24 +29,3 @@ module _ (job out work : List ℕ) where
     pub kept : {count : ℕ} {after cleared : List ℕ} → AnswersFile job out after count → cleared ≡ replicate (length work) 0
         → AnswerPromise small job out work count after cleared
     kept a clear = answered room memory a.answer a.is (put_count a.put) (put-over a.put) clear
-
--- ARRAYS THAT ARE LONG ENOUGH, by the sizes of the records.
-module _ {b : List ℕ} {at : ℕ} {s : Sizes} (told : SizesTold b at s) (none : s.tetrahedra ≤ 0) where
-  pub flat-room : FileRoom b at (replicate 512 0) (replicate 512 0) (replicate 0 0) (replicate 512 0) (replicate 0 0)
-  flat-room = record {
-    edges = λ fits. fits;
-    triangles = λ fits. fits;
-    tetrahedra = λ fits. omega (arith, told.tetrahedra);
-    triangle_sides = omega arith;
-    tetrahedron_sides = omega arith;
-  }
-
-  pub few-room : s.edges ≤ 512 → s.triangles ≤ 384
-      → FileRoom b at (replicate 256 0) (replicate 128 0) (replicate 0 0) (replicate 128 0) (replicate 0 0)
-  few-room edges triangles = record {
-    edges = λ fits. omega (arith, told.edges);
-    triangles = λ fits. omega (arith, told.triangles);
-    tetrahedra = λ fits. omega (arith, told.tetrahedra);
-    triangle_sides = omega arith;
-    tetrahedron_sides = omega arith;
-  }

@@ -19,56 +19,23 @@ const FEW: usize = 128;
 
 const FEW_EDGES: usize = 256;
 
-// Answers a small job without tetrahedra.
-fn answer_few(job: &[u8], out: &mut [u8], work: &mut [u8]) -> usize
-    requires file_room { FileRoom job.now 10 (replicate 256 0) (replicate 128 0) (replicate 0 0) (replicate 128 0) (replicate 0 0) }
+// Answers a job with so many places lent for its edges, its triangles and its tetrahedra.
+fn answer_with<const EDGES: usize, const TRIANGLES: usize, const TETRAHEDRA: usize>(
+    job: &[u8],
+    out: &mut [u8],
+    work: &mut [u8],
+) -> usize
+    requires few { (EDGES ≤ 512) × (TRIANGLES ≤ 512) × (TETRAHEDRA ≤ 512) }
+    requires file_room { FileRoom job.now 10 (replicate EDGES 0) (replicate TRIANGLES 0) (replicate TETRAHEDRA 0) (replicate TRIANGLES 0) (replicate TETRAHEDRA 0) }
     requires in_bounds { 2055 ≤ length out.old }
     requires in_bounds_2 { 65536 ≤ length work.old }
     ensures { AnswersFile job.now out.old out.new result }
 {
-    let mut e_keys = [0u64; FEW_EDGES];
-    let mut t_keys = [0u64; FEW];
-    let mut s_keys = [0u64; 0];
-    let mut t_sides = [0u64; FEW];
-    let mut s_sides = [0u64; 0];
-    answering::answer_in(
-        job,
-        out,
-        work,
-        &mut e_keys,
-        &mut t_keys,
-        &mut s_keys,
-        &mut t_sides,
-        &mut s_sides,
-    )
-}
-
-// Answers any job; one that is told to be flat has no tetrahedra.
-fn answer_many(job: &[u8], out: &mut [u8], work: &mut [u8], flat: bool) -> usize
-    requires file_room { flat ≡ true → FileRoom job.now 10 (replicate 512 0) (replicate 512 0) (replicate 0 0) (replicate 512 0) (replicate 0 0) }
-    requires in_bounds { 2055 ≤ length out.old }
-    requires in_bounds_2 { 65536 ≤ length work.old }
-    ensures { AnswersFile job.now out.old out.new result }
-{
-    let mut e_keys = [0u64; SimplexList::LIMIT];
-    let mut t_keys = [0u64; SimplexList::LIMIT];
-    let mut t_sides = [0u64; SimplexList::LIMIT];
-    if flat {
-        let mut no_keys = [0u64; 0];
-        let mut no_sides = [0u64; 0];
-        return answering::answer_in(
-            job,
-            out,
-            work,
-            &mut e_keys,
-            &mut t_keys,
-            &mut no_keys,
-            &mut t_sides,
-            &mut no_sides,
-        );
-    }
-    let mut s_keys = [0u64; SimplexList::LIMIT];
-    let mut s_sides = [0u64; SimplexList::LIMIT];
+    let mut e_keys = [0u64; EDGES];
+    let mut t_keys = [0u64; TRIANGLES];
+    let mut s_keys = [0u64; TETRAHEDRA];
+    let mut t_sides = [0u64; TRIANGLES];
+    let mut s_sides = [0u64; TETRAHEDRA];
     answering::answer_in(
         job,
         out,
@@ -89,15 +56,16 @@ fn answer_file(job: &[u8], out: &mut [u8], work: &mut [u8]) -> usize
 {
     let sizes = jobs::list_sizes(job);
     if 0 < sizes.tetrahedra {
-        return answer_many(job, out, work, false);
+        return answer_with::<
+            { SimplexList::LIMIT },
+            { SimplexList::LIMIT },
+            { SimplexList::LIMIT },
+        >(job, out, work);
     }
-    if 2 * FEW_EDGES < sizes.edges {
-        return answer_many(job, out, work, true);
+    if 2 * FEW_EDGES < sizes.edges || 3 * FEW < sizes.triangles {
+        return answer_with::<{ SimplexList::LIMIT }, { SimplexList::LIMIT }, 0>(job, out, work);
     }
-    if 3 * FEW < sizes.triangles {
-        return answer_many(job, out, work, true);
-    }
-    answer_few(job, out, work)
+    answer_with::<FEW_EDGES, FEW, 0>(job, out, work)
 }
 
 // Answers a job: the record goes to the front of `out`, its length is returned, and `work` is all zero afterwards. Where
