@@ -1,3 +1,4 @@
 -- Laws that several proofs of this crate cite.
+pub mod Four
 pub mod Sameness
 pub mod Moving
