@@ -181,7 +181,8 @@ fn move_item<T>(items: &mut [T], seen: usize, new: usize)
 pub fn same(a: Simplex, b: Simplex) -> bool
     ensures { result ≡ format.same (vertices_of a) (vertices_of b) }
 {
-    a.vertices() == b.vertices()
+    // item by item: `==` of slices is a call, which adds to the stack of the edits
+    a.vertices().iter().eq(b.vertices())
 }
 
 // The simplex that `width` bytes from `at` on spell.

@@ -125,9 +125,13 @@ pub fn put_job(out: &mut [u8], job: Job, n: usize) -> usize
     requires { (n ≤ 512) × (length (job_bytes job n) ≤ length out.old) }
     ensures { Put out.old 0 (job_bytes job n) out.new result }
 {
+    // each list in a variable of its own: a field that is passed is copied once more, 8 KB of stack in all
+    let edges = job.complex.edges;
+    let triangles = job.complex.triangles;
+    let tetrahedra = job.complex.tetrahedra;
     let a = put_head(out, job.head);
-    let b = put_list_record(out, a, SimplexList::EDGES, job.complex.edges);
-    let c = put_list_record(out, b, SimplexList::TRIANGLES, job.complex.triangles);
-    let d = put_list_record(out, c, SimplexList::TETRAHEDRA, job.complex.tetrahedra);
+    let b = put_list_record(out, a, SimplexList::EDGES, edges);
+    let c = put_list_record(out, b, SimplexList::TRIANGLES, triangles);
+    let d = put_list_record(out, c, SimplexList::TETRAHEDRA, tetrahedra);
     put_chain_record(out, d, job.marks, n)
 }

@@ -1,7 +1,12 @@
--- `lists::same` meets its contract: equal slices are the same vertices.
-use mathlib.Core.Path.{◌∙◌}
+-- `lists::same` meets its contract: vertices that are equal one by one are the same.
+use mathlib.Core.Path.{◌≡◌, ◌∙◌}
+use lib.Dec.{eqb}
+use Rattle.std.proofs.Common.{rules}
+use Rattle.std.specs.Cmp.Lexicographic.{pointwise}
 use Rattle.lists.proofs.Sameness.{pointwise-same}
 use Rattle.lists.proofs.same.Goals as goal
 
 pub returns : goal.returns
-returns c = rw (← c.vertices.ensures, ← c.vertices-2.ensures) (c.eq.ensures ∙ pointwise-same _ _)
+returns c =
+    let e : c.eq.result ≡ pointwise eqb c.vertices.result.now c.vertices-2.result.now = search rules in
+    rw (← c.vertices.ensures, ← c.vertices-2.ensures) (e ∙ pointwise-same _ _)
