@@ -117,7 +117,12 @@ pub fn count_marks(marks: Marks, n: usize) -> usize
     requires { n ≤ 512 }
     ensures { result ≡ length (places_from 0 (take n marks.on)) }
 {
-    marks.on[..n].iter().filter(|on| **on).count()
+    // added up, which the compiler does several at a time; `filter` and `count` branch at each mark
+    let mut count = 0;
+    for on in &marks.on[..n] {
+        count += *on as usize;
+    }
+    count
 }
 
 // The whole normal form of a job of which n simplices may be chosen; its length.
