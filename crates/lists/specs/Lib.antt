@@ -3,4 +3,5 @@
 pub mod Meaning
 pub mod Items
 pub mod Moved
+pub mod Same
 pub mod Verdicts

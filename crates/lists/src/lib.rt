@@ -3,6 +3,8 @@
 
 ghost use Rattle.std.specs.Prelude.{◌≡◌, ◌+◌, ◌≤◌, ◌<◌, min, false, [], length, take, drop, get_or, replicate};
 ghost use Rattle.format.specs.Simplex as format;
+ghost use Rattle.format.specs.Simplex.{same};
+ghost use Rattle.lists.specs.Same.{same_of, same_always};
 ghost use Rattle.lists.specs.Meaning.{vertices_of, simplices_of};
 ghost use Rattle.lists.specs.Moved.{MovedList, MovedMarks};
 ghost use Rattle.format.specs.Reading.{moved};
@@ -108,6 +110,22 @@ impl Simplex {
     }
 }
 
+// The same vertices.
+impl PartialEq for Simplex {
+    ghost eq = { λ s t. same (vertices_of s) (vertices_of t) };
+
+    ghost laws = { same_of vertices_of };
+
+    fn eq(&self, other: &Self) -> bool {
+        // item by item: `==` of slices is a call, which adds to the stack of the edits
+        self.vertices().iter().eq(other.vertices())
+    }
+}
+
+impl Eq for Simplex {
+    ghost laws = { same_always vertices_of };
+}
+
 impl SimplexList {
     // The kind of each list's record, which is also the number of vertices of its simplices.
     pub const EDGES: u16 = 2;
@@ -181,8 +199,7 @@ fn move_item<T>(items: &mut [T], seen: usize, new: usize)
 pub fn same(a: Simplex, b: Simplex) -> bool
     ensures { result ≡ format.same (vertices_of a) (vertices_of b) }
 {
-    // item by item: `==` of slices is a call, which adds to the stack of the edits
-    a.vertices().iter().eq(b.vertices())
+    a == b
 }
 
 // The simplex that `width` bytes from `at` on spell.

@@ -1,10 +1,10 @@
--- `lists::same` meets its contract: vertices that are equal one by one are the same.
+-- `==` of simplices meets its contract: vertices that are equal one by one are the same.
 use mathlib.Core.Path.{◌≡◌, ◌∙◌}
 use lib.Dec.{eqb}
 use Rattle.std.proofs.Common.{rules}
 use Rattle.std.specs.Cmp.Lexicographic.{pointwise}
-use Rattle.lists.proofs.Sameness.{pointwise-same}
-use Rattle.lists.proofs.same.Goals as goal
+use Rattle.lists.specs.Same.{pointwise-same}
+use Rattle.lists.proofs.SimplexPartialEq.eq.Goals as goal
 
 pub returns : goal.returns
 returns c =
