@@ -140,7 +140,7 @@ fn judge(at: usize, edit: Edit, view: View) -> Verdict
     if count <= edit.seen {
         return Verdict::Refused(Verdict::STALE, at);
     }
-    if !lists::same(edit.simplex, view.there) {
+    if edit.simplex != view.there {
         return Verdict::Refused(Verdict::STALE, at);
     }
     if count <= edit.new {

@@ -3,7 +3,6 @@
 
 ghost use Rattle.std.specs.Prelude.{◌≡◌, ◌+◌, ◌≤◌, ◌<◌, min, false, [], length, take, drop, get_or, replicate};
 ghost use Rattle.format.specs.Simplex as format;
-ghost use Rattle.format.specs.Simplex.{same};
 ghost use Rattle.lists.specs.Same.{same_of, same_always};
 ghost use Rattle.lists.specs.Meaning.{vertices_of, simplices_of};
 ghost use Rattle.lists.specs.Moved.{MovedList, MovedMarks};
@@ -112,7 +111,7 @@ impl Simplex {
 
 // The same vertices.
 impl PartialEq for Simplex {
-    ghost eq = { λ s t. same (vertices_of s) (vertices_of t) };
+    ghost eq = { λ s t. format.same (vertices_of s) (vertices_of t) };
 
     ghost laws = { same_of vertices_of };
 
@@ -193,13 +192,6 @@ fn move_item<T>(items: &mut [T], seen: usize, new: usize)
     } else {
         items[new..=seen].rotate_right(1);
     }
-}
-
-// Whether two simplices have the same vertices.
-pub fn same(a: Simplex, b: Simplex) -> bool
-    ensures { result ≡ format.same (vertices_of a) (vertices_of b) }
-{
-    a == b
 }
 
 // The simplex that `width` bytes from `at` on spell.
