@@ -1,40 +1,25 @@
 // Answer records: a refusal, or a chain's members in rising rank.
 #![tactic(auto)]
 
-ghost use Rattle.std.specs.Prelude.{◌≡◌, ◌+◌, ◌*◌, ◌≤◌, ◌<◌, length, set};
+ghost use Rattle.std.specs.Prelude.{◌≡◌, ◌+◌, ◌*◌, ◌≤◌, length};
 ghost use Rattle.format.specs.Answer.{refusal_record};
-ghost use Rattle.lists.specs.Meaning.{vertices_of};
 ghost use Rattle.lookup.specs.Numbered.{simplices_in};
 ghost use Rattle.columns.specs.Column.{chain_of};
-ghost use Rattle.writer.specs.Meaning.{Put, simplex_bytes};
-ghost use Rattle.answers.specs.Meaning.{member_bytes, member_piece, chain_bytes};
+ghost use Rattle.writer.specs.Meaning.{Put};
+ghost use Rattle.answers.specs.Meaning.{member_bytes, chain_bytes};
 
-use lists::Simplex;
 use records::Header;
 
 // A refusal's record, twelve bytes: the number in two, the place in four.
+#[tactic(auto, unfolding(format::specs::Answer::refusal_record))]
 pub fn put_refusal(out: &mut [u8], number: u16, place: usize) -> usize
     requires { 12 ≤ length out.old }
     ensures { Put out.old 0 (refusal_record number place) out.new result }
 {
     writer::put_header(out, 0, Header::REFUSAL as usize, 6);
     writer::put_u16(out, Header::BYTES, number as usize);
-    writer::put_u16(out, 8, place % 65536);
-    writer::put_u16(out, 10, place / 65536);
+    writer::put_u32(out, Header::BYTES + 2, place);
     12
-}
-
-// A simplex, where it is a member; the place behind it.
-fn put_member(out: &mut [u8], at: usize, s: Simplex, on: bool) -> usize
-    requires { at + length (member_piece (vertices_of s) on) ≤ length out.old }
-    ensures { Put out.old at (member_piece (vertices_of s) on) out.new result }
-{
-    if on {
-        writer::put_simplex(out, at, s);
-        at + s.size()
-    } else {
-        at
-    }
 }
 
 // The members of a chain of the n simplices whose numbers the keys are, one behind the other; the place behind them.
@@ -53,21 +38,14 @@ pub fn put_members(
     ensures { Put out.old at (member_bytes (chain_of col.now) (simplices_in size keys.now n)) out.new result }
 {
     let mut next = at;
-    let mut i = 0;
-    while i < n {
-        let s = lookup::simplex_of(keys[i], size);
-        next = put_member(out, next, s, columns::test(col, i));
-        i += 1;
+    for (i, key) in keys[..n].iter().enumerate() {
+        if columns::test(col, i) {
+            let s = lookup::simplex_of(*key, size);
+            writer::put_simplex(out, next, s);
+            next += s.size();
+        }
     }
     next
-}
-
-// One byte.
-fn put_byte(out: &mut [u8], at: usize, b: u8)
-    requires { at < length out.old }
-    ensures { out.new ≡ set out.old at b }
-{
-    out[at] = b;
 }
 
 // A chain's record: d, and then the members, behind a header that says how long they are.
@@ -78,8 +56,8 @@ pub fn put_chain(out: &mut [u8], d: u8, keys: &[u64], n: usize, size: usize, col
     requires n_bound { n ≤ 8 * length col.now }
     ensures { Put out.old 0 (chain_bytes d (chain_of col.now) (simplices_in size keys.now n)) out.new result }
 {
-    let next = put_members(out, 7, keys, n, size, col);
-    put_byte(out, Header::BYTES, d);
+    let next = put_members(out, Header::BYTES + 1, keys, n, size, col);
+    out[Header::BYTES] = d;
     writer::put_header(out, 0, Header::ANSWER as usize, next - Header::BYTES);
     next
 }

@@ -33,12 +33,7 @@ impl Job {
 pub fn count_of(list: SimplexList) -> usize
     ensures { (result ≡ length (simplices_of list)) × (result ≤ 512) }
 {
-    let count = list.count;
-    if count < SimplexList::LIMIT {
-        count
-    } else {
-        SimplexList::LIMIT
-    }
+    list.count.min(SimplexList::LIMIT)
 }
 
 impl Complex {
@@ -53,28 +48,25 @@ impl Complex {
     }
 
     // The list of a dimension from 1 to 3; outside, none.
+    #[tactic(auto, unfolding(format::specs::Simplex::simplices))]
     pub fn list(self, dim: usize) -> SimplexList
         ensures { 1 ≤ dim → simplices_of result ≡ list_of self dim }
     {
-        if dim == 1 {
-            return self.edges;
+        match dim {
+            1 => self.edges,
+            2 => self.triangles,
+            3 => self.tetrahedra,
+            _ => SimplexList::empty(),
         }
-        if dim == 2 {
-            return self.triangles;
-        }
-        if dim == 3 {
-            return self.tetrahedra;
-        }
-        SimplexList::empty()
     }
 
     // How many simplices of a dimension there are.
     pub fn count(self, dim: usize) -> usize
         ensures { (result ≡ length (list_of self dim)) × (self.v ≤ 512 → result ≤ 512) }
     {
-        if dim == 0 {
-            return self.v as usize;
+        match dim {
+            0 => self.v as usize,
+            _ => count_of(self.list(dim)),
         }
-        count_of(self.list(dim))
     }
 }

@@ -107,7 +107,7 @@ fn judge(at: usize, edit: Edit, view: View) -> Result<(), Refusal>
     if count <= edit.seen {
         return Err(Reason::Stale.at(at));
     }
-    if !lists::same(edit.simplex, view.there) {
+    if edit.simplex != view.there {
         return Err(Reason::Stale.at(at));
     }
     if count <= edit.new {

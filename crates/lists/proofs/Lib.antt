@@ -1,4 +1,3 @@
 -- Laws that several proofs of this crate cite.
 pub mod Four
-pub mod Sameness
 pub mod Moving

@@ -1,97 +1,45 @@
--- Moving an item place by place. Why it comes out right: one step towards the new place is one exchange of neighbours,
--- which is what moving one place further means; the distance that is left falls with each step.
-use Prim.Native.Nat.{ℕ, suc, ◌+◌, ◌-◌, ◌≤◌, ◌<◌}
+-- Moving an item by turning the part of the list between its two places by one: the item goes to the other end of the part, and
+-- the others of the part follow it by one place.
+use Prim.Native.Nat.{ℕ, zero, suc, ◌+◌, ◌-◌, ◌≤◌, ◌<◌}
 use native.Mathlib.Omega.{arith}
-use native.Mathlib.Decide.{dec_lt}
 use mathlib.Core.Path.{◌≡◌, refl, sym, ap, ap₂, ◌∙◌}
-use mathlib.Core.List.{List, map}
-use lib.ListN.{length, take, get_or, set, length-map, length-set}
-use lib.Seq.{length-take-le, set-get_or, set-set, get_or-set_same, get_or-set_other}
+use mathlib.Core.List.{List, [], ◌∷◌, ◌++◌, append_assoc, map}
+use lib.ListN.{length, take, drop, length-map}
+use lib.Seq.{length-take-le, take-take}
+use borrow.Rule.Slice.PartMut.{put_mid, mid_of}
+use Rattle.std.proofs.lemmas.Slice.{between_is}
 use Rattle.format.specs.Reading.{moved}
-use Rattle.format.specs.Moves.{exchanged, moved-home, moved_up, moved_down, take-moved, moved_out, map-moved}
+use Rattle.format.specs.Moves.{moved_out, take-moved, map-moved}
 use Rattle.lists.specs.Meaning.{vertices_of, simplices_of}
-use Rattle.lists.specs.Moved.{Toward, MovedList, MovedMarks}
+use Rattle.lists.specs.Moved.{MovedList, MovedMarks}
 use Rattle.lists.specs.declared.Simplex.{Simplex}
 use Rattle.lists.specs.declared.SimplexList.{SimplexList}
 use Rattle.lists.specs.declared.Marks.{Marks}
 
--- the next place, by the side on which the new place lies
-data Side (i to j : ℕ) : Type 0 where
-  above : i < to → j ≡ suc i → Side i to j
-  below : to < i → i ≡ suc j → Side i to j
+module _ {A : Type 0} where
+  -- the first item of the part goes behind its last
+  pub first-behind : (seen new k : ℕ) (l : List A) → seen < new → new < length l → k + seen ≡ suc new →
+      put_mid seen k l (drop 1 (mid_of seen k l) ++ take 1 (mid_of seen k l)) ≡ moved seen new l
+  unfolding moved
+  first-behind seen new k [] up h e = absurd (omega arith)
+  first-behind zero new k (x ∷ l) up h e = let whole : k ≡ suc new = omega arith in rw whole
+  first-behind (suc seen) zero k (x ∷ l) up h e = absurd (omega arith)
+  first-behind (suc seen) (suc new) k (x ∷ l) up h e = ap (◌∷◌ x) (first-behind seen new k l (omega arith) (omega arith) (omega arith))
 
-side : (i to j : ℕ) → Toward i to j → (i ≡ to → ⊥) → Side i to j
-side i to j t apart = go (dec_lt i to)
-  where
-    go : Dec (i < to) → Side i to j
-    go (yes h) = above h (omega (arith, t.up h))
-    go (no h) = let lower : to < i = omega arith in below lower (omega (arith, t.down lower))
+  -- the last item of the part goes in front of its first
+  last-of : (i : ℕ) (l : List A) → drop i (take (suc i) l) ≡ take 1 (drop i l)
+  last-of i l = let one : suc i - i ≡ 1 = omega arith in sym (between_is l i (suc i)) ∙ rw one
 
--- how far it is from one place to another
-abbrev pub distance : ℕ → ℕ → ℕ
-distance i to = (i - to) + (to - i)
-
-pub nearer : (i to j : ℕ) → Toward i to j → (i ≡ to → ⊥) → distance j to < distance i to
-nearer i to j t apart = go (side i to j t apart)
-  where
-    go : Side i to j → distance j to < distance i to
-    go (above h e) = omega arith
-    go (below h e) = omega arith
-
--- An item a of a list of n places on its way from `seen` to `new`: those that it passed have moved up to fill its place, and
--- put at place i it makes the list of the move to i.
-pub record Moving {A : Type 0} (n seen new : ℕ) (before list : List A) (a : A) (i : ℕ) : Type 0 where
-  pub full : length before ≡ n
-  pub long : length list ≡ n
-  pub from : seen < n
-  pub to : new < n
-  pub here : i < n
-  pub so_far : set list i a ≡ moved seen i before
-
--- one step is an exchange of neighbours, of which only one is written
-step-exchanged : {A : Type 0} (d a : A) (list : List A) (i j : ℕ) → i < length list → (j ≡ i → ⊥)
-    → set (set list i (get_or list j d)) j a ≡ exchanged d i j (set list i a)
-step-exchanged {A} d a list i j inside apart =
-    sym
-    (ap₂ (λ (l : List A) (x : A). set l j x) (set-set list i a _) (get_or-set_same list i a d inside)
-    ∙ ap (λ (x : A). set (set list i x) j a) (get_or-set_other list i j a d apart))
-
-module _ {A : Type 0} (n seen new : ℕ) (before : List A) where
-  pub moving-start : (d : A) → length before ≡ n → seen < n → new < n → Moving n seen new before before (get_or before seen d) seen
-  moving-start d full from to =
-      record {
-        full = full;
-        long = full;
-        from = from;
-        to = to;
-        here = from;
-        so_far = set-get_or before seen d ∙ sym (moved-home seen before);
-      }
-
-  pub moving-on : (d a : A) (list : List A) (i j : ℕ) → Moving n seen new before list a i → (i ≡ new → ⊥) → Toward i new j → Moving n seen new before (set list i (get_or list j d)) a j
-  moving-on d a list i j m apart t =
-      record {
-        full = m.full;
-        long = length-set list i (get_or list j d) ∙ m.long;
-        from = m.from;
-        to = m.to;
-        here = omega (arith, m, t.near);
-        so_far =
-            step-exchanged d a list i j (omega (arith, m.here, m.long)) (other (side i new j t apart))
-            ∙ ap (exchanged d i j) m.so_far
-            ∙ go (side i new j t apart);
-      }
-    where
-      other : Side i new j → j ≡ i → ⊥
-      other (above h e) z = omega arith
-      other (below h e) z = omega arith
-
-      go : Side i new j → exchanged d i j (moved seen i before) ≡ moved seen j before
-      go (above h e) = rw e (moved_up d seen i before (omega (arith, m)) (omega (arith, m)))
-      go (below h e) = rw e (moved_down d seen j before (omega (arith, m)) (omega (arith, m)))
-
-  pub moving-end : (a : A) (list : List A) (i : ℕ) → Moving n seen new before list a i → i ≡ new → set list i a ≡ moved seen new before
-  moving-end a list i m e = m.so_far ∙ ap (λ (k : ℕ). moved seen k before) e
+  pub last-before : (seen new k n : ℕ) (l : List A) → new ≤ seen → seen < length l → k + new ≡ suc seen → n + 1 ≡ k →
+      put_mid new k l (drop n (mid_of new k l) ++ take n (mid_of new k l)) ≡ moved seen new l
+  unfolding moved
+  last-before seen new k n [] down h e m = absurd (omega arith)
+  last-before seen zero k n (x ∷ l) down h e m =
+      let whole : k ≡ suc seen = omega arith in
+      let rest : n ≡ seen = omega arith in
+      rw (whole, rest) (rw (last-of seen (x ∷ l), take-take seen (suc seen) (x ∷ l) (omega arith)) (append_assoc (take 1 (drop seen (x ∷ l))) (take seen (x ∷ l)) (drop seen l)))
+  last-before zero (suc new) k n (x ∷ l) down h e m = absurd (omega arith)
+  last-before (suc seen) (suc new) k n (x ∷ l) down h e m = ap (◌∷◌ x) (last-before seen new k n l (omega arith) (omega arith) (omega arith) m)
 
 -- The list of simplices with its items moved, or left as they are.
 module _ (l : SimplexList) (n seen new : ℕ) (size : n ≡ length (simplices_of l)) where

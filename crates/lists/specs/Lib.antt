@@ -3,3 +3,4 @@
 pub mod Meaning
 pub mod Items
 pub mod Moved
+pub mod Same

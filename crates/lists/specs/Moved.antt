@@ -1,16 +1,9 @@
 -- What moving one item comes to.
-use Rattle.std.specs.Prelude.{ℕ, ◌+◌, ◌-◌, ◌≤◌, ◌<◌, max, ◌≡◌, length, take}
+use Rattle.std.specs.Prelude.{ℕ, ◌≤◌, ◌<◌, ◌≡◌, length, take}
 use Rattle.format.specs.Reading.{moved}
 use Rattle.lists.specs.Meaning.{simplices_of}
 use Rattle.lists.specs.declared.SimplexList.{SimplexList}
 use Rattle.lists.specs.declared.Marks.{Marks}
-
--- the place next to i on the way to another
-pub record Toward (i to next : ℕ) : Type 0 where
-  pub up : i < to → next ≡ i + 1
-  pub down : to < i → next ≡ i - 1
-  pub there : i ≡ to → next ≡ i
-  pub near : next ≤ max i to
 
 -- "An edit takes the simplex from its seen position and puts it at the new one": `after` is that list, where there is
 -- such a new position, and else the list as it was

@@ -1,10 +1,12 @@
 // Simplices, the lists of a complex, and chains as marks by rank.
 #![tactic(auto)]
 
-ghost use Rattle.std.specs.Prelude.{◌≡◌, ◌+◌, ◌≤◌, min, false, [], length, take, drop, get_or, replicate};
+ghost use Rattle.std.specs.Prelude.{◌≡◌, ◌+◌, ◌≤◌, ◌<◌, min, false, [], length, take, drop, get_or, replicate};
 ghost use Rattle.format.specs.Simplex as format;
+ghost use Rattle.lists.specs.Same.{same_of, same_always};
 ghost use Rattle.lists.specs.Meaning.{vertices_of, simplices_of};
-ghost use Rattle.lists.specs.Moved.{MovedList, MovedMarks, Toward};
+ghost use Rattle.lists.specs.Moved.{MovedList, MovedMarks};
+ghost use Rattle.format.specs.Reading.{moved};
 
 // A simplex: its vertices stand first in the array, one more of them than the dimension.
 #[derive(Clone, Copy)]
@@ -46,23 +48,38 @@ impl Simplex {
     pub fn size(self) -> usize
         ensures { (result ≡ length (vertices_of self)) × (result ≤ 4) }
     {
-        if self.dim < 3 {
-            self.dim as usize + 1
-        } else {
-            4
-        }
+        (self.dim as usize + 1).min(4)
+    }
+
+    // The vertices that count, in their order.
+    pub fn vertices(&self) -> &[u16]
+        ensures { result.now ≡ vertices_of self.now }
+    {
+        &self.vertices[..self.size()]
     }
 
     // The vertex at a place, 0 past the last.
     pub fn vertex(self, place: usize) -> u16
         ensures { result ≡ get_or (vertices_of self) place 0 }
     {
-        if place < self.size() {
-            self.vertices[place]
-        } else {
-            0
-        }
+        self.vertices().get(place).copied().unwrap_or(0)
     }
+}
+
+// The same vertices.
+impl PartialEq for Simplex {
+    ghost eq = { λ s t. format.same (vertices_of s) (vertices_of t) };
+
+    ghost laws = { same_of vertices_of };
+
+    fn eq(&self, other: &Self) -> bool {
+        // item by item: `==` of slices is a call, which adds to the stack of the edits
+        self.vertices().iter().eq(other.vertices())
+    }
+}
+
+impl Eq for Simplex {
+    ghost laws = { same_always vertices_of };
 }
 
 impl SimplexList {
@@ -86,22 +103,10 @@ impl SimplexList {
     pub fn moved(mut self, seen: usize, new: usize) -> Self
         ensures { MovedList self result seen new }
     {
-        let n = least(self.count, SimplexList::LIMIT);
-        if n <= seen {
-            return self;
+        let n = self.count.min(SimplexList::LIMIT);
+        if seen < n && new < n {
+            move_item(&mut self.items, seen, new);
         }
-        if n <= new {
-            return self;
-        }
-        let s = self.items[seen];
-        let mut i = seen;
-        while i != new {
-            let next = toward(i, new);
-            let t = self.items[next];
-            self.items[i] = t;
-            i = next;
-        }
-        self.items[i] = s;
         self
     }
 }
@@ -120,21 +125,9 @@ impl Marks {
     pub fn moved(mut self, seen: usize, new: usize) -> Self
         ensures { MovedMarks self result seen new }
     {
-        if SimplexList::LIMIT <= seen {
-            return self;
+        if seen < SimplexList::LIMIT && new < SimplexList::LIMIT {
+            move_item(&mut self.on, seen, new);
         }
-        if SimplexList::LIMIT <= new {
-            return self;
-        }
-        let a = self.on[seen];
-        let mut i = seen;
-        while i != new {
-            let j = toward(i, new);
-            let b = self.on[j];
-            self.on[i] = b;
-            i = j;
-        }
-        self.on[i] = a;
         self
     }
 }
@@ -143,65 +136,19 @@ impl Marks {
 pub fn least(a: usize, b: usize) -> usize
     ensures { result ≡ min a b }
 {
-    if a < b { a } else { b }
+    a.min(b)
 }
 
-// The place next to `i` on the way to `to`.
-fn toward(i: usize, to: usize) -> usize
-    ensures { Toward i to result }
+// Takes the item at `seen` out and puts it at `new`; those between shift by one place.
+fn move_item<T>(items: &mut [T], seen: usize, new: usize)
+    requires { (seen < length items.old) × (new < length items.old) }
+    ensures { items.new ≡ moved seen new items.old }
 {
-    if i < to {
-        i + 1
-    } else if to < i {
-        i - 1
+    if seen < new {
+        items[seen..=new].rotate_left(1);
     } else {
-        i
+        items[new..=seen].rotate_right(1);
     }
-}
-
-// Whether two simplices have the same vertices.
-pub fn same(a: Simplex, b: Simplex) -> bool
-    ensures { result ≡ format.same (vertices_of a) (vertices_of b) }
-{
-    if a.vertices[0] != b.vertices[0] {
-        return false;
-    }
-    let size = a.size();
-    if b.size() != size {
-        return false;
-    }
-    if size < 2 {
-        return true;
-    }
-    if a.vertices[1] != b.vertices[1] {
-        return false;
-    }
-    if size < 3 {
-        return true;
-    }
-    if a.vertices[2] != b.vertices[2] {
-        return false;
-    }
-    if size < 4 {
-        return true;
-    }
-    a.vertices[3] == b.vertices[3]
-}
-
-// The vertex at a place of the simplex that `width` bytes from `at` on spell, 0 past the last.
-fn vertex_at(p: &[u8], at: usize, width: usize, place: usize) -> u16
-    ensures { result ≡ get_or (take width (drop at p.now)) place 0 }
-{
-    if width <= place {
-        return 0;
-    }
-    if p.len() <= at {
-        return 0;
-    }
-    if p.len() - at <= place {
-        return 0;
-    }
-    p[at + place] as u16
 }
 
 // The simplex that `width` bytes from `at` on spell.
@@ -209,13 +156,12 @@ pub fn simplex_at(p: &[u8], at: usize, width: usize) -> Simplex
     requires { (1 ≤ width) × (width ≤ 4) × (at + width ≤ length p.now) }
     ensures { vertices_of result ≡ take width (drop at p.now) }
 {
+    let mut vertices = [0; 4];
+    for (place, byte) in p[at..at + width].iter().enumerate() {
+        vertices[place] = *byte as u16;
+    }
     Simplex {
-        vertices: [
-            vertex_at(p, at, width, 0),
-            vertex_at(p, at, width, 1),
-            vertex_at(p, at, width, 2),
-            vertex_at(p, at, width, 3),
-        ],
+        vertices,
         dim: (width - 1) as u16,
     }
 }

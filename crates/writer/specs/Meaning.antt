@@ -23,10 +23,6 @@ list_bytes (s ∷ l) = simplex_bytes s ++ list_bytes l
 abbrev pub header_of_size : ℕ → ℕ → List ℕ
 header_of_size kind size = u32_bytes size ++ u16_bytes kind
 
--- the position of one mark, where it is on
-abbrev pub mark_piece : ℕ → Bool → List ℕ
-mark_piece i on = position_bytes (places_from i (on ∷ []))
-
 -- the positions of the first n marks that are on
 abbrev pub mark_bytes : ℕ → List Bool → List ℕ
 mark_bytes n on = position_bytes (places_from 0 (take n on))

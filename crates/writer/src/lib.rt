@@ -2,11 +2,11 @@
 #![tactic(auto)]
 
 ghost use Rattle.std.specs.Prelude.{◌≡◌, ◌+◌, ◌≤◌, length, take};
-ghost use Rattle.format.specs.Answer.{u16_bytes, record_of};
+ghost use Rattle.format.specs.Answer.{u16_bytes, u32_bytes, record_of};
 ghost use Rattle.format.specs.Writing.{places_from};
 ghost use Rattle.lists.specs.Meaning.{vertices_of, simplices_of};
 ghost use Rattle.writer.specs.Splice.{splice};
-ghost use Rattle.writer.specs.Meaning.{simplex_bytes, list_bytes, header_of_size, mark_piece, mark_bytes, Put, head_record, job_bytes};
+ghost use Rattle.writer.specs.Meaning.{simplex_bytes, list_bytes, header_of_size, mark_bytes, Put, head_record, job_bytes};
 
 use chosen::ChainRecord;
 use complexes::Job;
@@ -19,8 +19,15 @@ pub fn put_u16(out: &mut [u8], at: usize, n: usize)
     requires { at + 2 ≤ length out.old }
     ensures { out.new ≡ splice out.old at (u16_bytes n) }
 {
-    out[at] = (n % 256) as u8;
-    out[at + 1] = (n / 256 % 256) as u8;
+    out[at..at + 2].copy_from_slice(&n.to_le_bytes()[..2]);
+}
+
+// A number in four bytes, little-endian.
+pub fn put_u32(out: &mut [u8], at: usize, n: usize)
+    requires { at + 4 ≤ length out.old }
+    ensures { out.new ≡ splice out.old at (u32_bytes n) }
+{
+    out[at..at + 4].copy_from_slice(&n.to_le_bytes()[..4]);
 }
 
 // A record's header: four bytes of length, two of kind.
@@ -28,8 +35,7 @@ pub fn put_header(out: &mut [u8], at: usize, kind: usize, size: usize)
     requires { at + 6 ≤ length out.old }
     ensures { out.new ≡ splice out.old at (header_of_size kind size) }
 {
-    put_u16(out, at, size % 65536);
-    put_u16(out, at + 2, size / 65536);
+    put_u32(out, at, size);
     put_u16(out, at + 4, kind);
 }
 
@@ -38,11 +44,8 @@ pub fn put_simplex(out: &mut [u8], at: usize, s: Simplex)
     requires { at + length (vertices_of s) ≤ length out.old }
     ensures { out.new ≡ splice out.old at (simplex_bytes (vertices_of s)) }
 {
-    let size = s.size();
-    let mut i = 0;
-    while i < size {
-        out[at + i] = (s.vertices[i] % 256) as u8;
-        i += 1;
+    for (place, vertex) in s.vertices().iter().enumerate() {
+        out[at + place] = (*vertex % 256) as u8;
     }
 }
 
@@ -53,27 +56,11 @@ pub fn put_list(out: &mut [u8], at: usize, list: SimplexList) -> usize
 {
     let n = complexes::count_of(list);
     let mut next = at;
-    let mut i = 0;
-    while i < n {
-        let s = list.items[i];
-        put_simplex(out, next, s);
+    for s in &list.items[..n] {
+        put_simplex(out, next, *s);
         next += s.size();
-        i += 1;
     }
     next
-}
-
-// The position i in two bytes, where its mark is on; the place behind it.
-fn put_mark(out: &mut [u8], at: usize, i: usize, on: bool) -> usize
-    requires { at + length (mark_piece i on) ≤ length out.old }
-    ensures { Put out.old at (mark_piece i on) out.new result }
-{
-    if on {
-        put_u16(out, at, i);
-        at + 2
-    } else {
-        at
-    }
 }
 
 // The positions of the first n marks that are on, two bytes each; the place behind them.
@@ -82,10 +69,11 @@ pub fn put_marks(out: &mut [u8], at: usize, marks: Marks, n: usize) -> usize
     ensures { Put out.old at (mark_bytes n marks.on) out.new result }
 {
     let mut next = at;
-    let mut i = 0;
-    while i < n {
-        next = put_mark(out, next, i, marks.on[i]);
-        i += 1;
+    for (i, on) in marks.on[..n].iter().enumerate() {
+        if *on {
+            put_u16(out, next, i);
+            next += 2;
+        }
     }
     next
 }
@@ -118,13 +106,10 @@ pub fn put_head(out: &mut [u8], head: Head) -> usize
     ensures { Put out.old 0 (head_record head) out.new result }
 {
     put_header(out, 0, Head::KIND as usize, Head::BYTES);
-    put_u16(
-        out,
-        Header::BYTES,
-        head.question as usize + 256 * (head.d as usize),
-    );
-    put_u16(out, 8, head.v as usize);
-    10
+    out[Header::BYTES] = head.question;
+    out[Header::BYTES + 1] = head.d;
+    put_u16(out, Header::BYTES + 2, head.v as usize);
+    Header::BYTES + Head::BYTES
 }
 
 // How many of the first n marks are on.
@@ -132,13 +117,10 @@ pub fn count_marks(marks: Marks, n: usize) -> usize
     requires { n ≤ 512 }
     ensures { result ≡ length (places_from 0 (take n marks.on)) }
 {
+    // added up, which the compiler does several at a time; `filter` and `count` branch at each mark
     let mut count = 0;
-    let mut i = 0;
-    while i < n {
-        if marks.on[i] {
-            count += 1;
-        }
-        i += 1;
+    for on in &marks.on[..n] {
+        count += *on as usize;
     }
     count
 }
@@ -148,14 +130,13 @@ pub fn put_job(out: &mut [u8], job: Job, n: usize) -> usize
     requires { (n ≤ 512) × (length (job_bytes job n) ≤ length out.old) }
     ensures { Put out.old 0 (job_bytes job n) out.new result }
 {
-    let head = job.head;
+    // each list in a variable of its own: a field that is passed is copied once more, 8 KB of stack in all
     let edges = job.complex.edges;
     let triangles = job.complex.triangles;
     let tetrahedra = job.complex.tetrahedra;
-    let marks = job.marks;
-    let a = put_head(out, head);
+    let a = put_head(out, job.head);
     let b = put_list_record(out, a, SimplexList::EDGES, edges);
     let c = put_list_record(out, b, SimplexList::TRIANGLES, triangles);
     let d = put_list_record(out, c, SimplexList::TETRAHEDRA, tetrahedra);
-    put_chain_record(out, d, marks, n)
+    put_chain_record(out, d, job.marks, n)
 }

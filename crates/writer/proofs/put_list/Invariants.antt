@@ -1,12 +1,10 @@
--- `writer::put_list` meets its contract: the loop keeps a `Run` of simplices.
-use Prim.Native.Nat.{◌-◌}
+-- `writer::put_list` meets its contract: what is left to put are the bytes of the simplices to come.
+use lib.ListN.{drop}
 use Rattle.lists.specs.Meaning.{simplices_of}
-use Rattle.writer.proofs.Runs.{Run, up_to_simplex}
+use Rattle.writer.specs.Meaning.{list_bytes}
+use Rattle.writer.proofs.Runs.{Run}
 use Rattle.writer.proofs.put_list.Given as goal
 
-abbrev pub invariant-loop-i : goal.invariant-loop-i
-invariant-loop-i l =
-    Run l.initial.out l.at (up_to_simplex (simplices_of l.list)) l.n l.out l.next l.i
-
-abbrev pub decreases-loop-i : goal.decreases-loop-i
-decreases-loop-i l = l.n - l.i
+abbrev pub invariant-loop-s : goal.invariant-loop-s
+invariant-loop-s l =
+    Run l.initial.out l.at (list_bytes (simplices_of l.fn.list)) l.out l.next (list_bytes (drop l.s-index (simplices_of l.fn.list)))

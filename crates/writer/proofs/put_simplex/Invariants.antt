@@ -1,11 +1,10 @@
--- `writer::put_simplex` meets its contract: the loop keeps `Spelling`.
-use Prim.Native.Nat.{◌-◌}
-use Rattle.lists.specs.Meaning.{vertices_of}
-use Rattle.writer.proofs.Pieces.{Spelling}
+-- `writer::put_simplex` meets its contract: what is left to put are the bytes of the vertices to come.
+use Prim.Native.Nat.{◌+◌}
+use lib.ListN.{drop}
+use Rattle.writer.specs.Meaning.{simplex_bytes}
+use Rattle.writer.proofs.Runs.{Run}
 use Rattle.writer.proofs.put_simplex.Given as goal
 
-abbrev pub invariant-loop-i : goal.invariant-loop-i
-invariant-loop-i l = Spelling l.initial.out l.at (vertices_of l.s) l.size l.out l.i
-
-abbrev pub decreases-loop-i : goal.decreases-loop-i
-decreases-loop-i l = l.size - l.i
+abbrev pub invariant-loop-place : goal.invariant-loop-place
+invariant-loop-place l =
+    Run l.initial.out l.at (simplex_bytes l.vertex-items) l.out (l.at + l.place) (simplex_bytes (drop l.place l.vertex-items))

@@ -1,15 +1,9 @@
--- `complexes::Complex::count` meets its contract: v vertices, and of the others as many as the list holds.
-use native.Mathlib.Omega.{arith}
-use mathlib.Core.Path.{sym, ◌∙◌, ap}
-use lib.ListN.{length}
+-- `complexes::Complex::count` meets its contract: there are v vertices.
+use mathlib.Core.Path.{sym}
+use Rattle.format.specs.Simplex.{simplices}
 use Rattle.format.specs.Vertices.{length-vertices}
-use Rattle.complexes.proofs.Laws.{list-vertices}
 use Rattle.complexes.proofs.Complex.count.Goals as goal
 
-pub returns-then-dim-eq0 : goal.returns-then-dim-eq0
-returns-then-dim-eq0 c =
-    let a = c.args in
-    (sym (length-vertices a.self.v) ∙ ap length (list-vertices a.self a.dim (omega arith)), λ few. few)
-
-pub returns : goal.returns
-returns c = (c.count_of.ensures.0 ∙ ap length (c.list.ensures (omega arith)), λ few. c.count_of.ensures.1)
+pub returns-in-0 : goal.returns-in-0
+unfolding simplices
+returns-in-0 c = (rw c.in-0.is (sym (length-vertices c.args.self.v)), λ few. few)

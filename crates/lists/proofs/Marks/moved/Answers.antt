@@ -1,25 +1,16 @@
--- `lists::Marks::moved` meets its contract: with the moved mark put at place `i` the marks are those of the move there.
+-- `lists::Marks::moved` meets its contract: a mark that has both places is moved.
 -- Assumes nothing.
-use mathlib.Core.Bool.{false}
-use Rattle.lists.proofs.Moving.{nearer, moving-start, moving-on, moving-end, no-mark-there, no-mark-place, moved_marks}
 use Rattle.std.proofs.Common.{rules}
+use Rattle.lists.proofs.Moving.{no-mark-there, no-mark-place, moved_marks}
+use Rattle.lists.proofs.Marks.moved.Goals.{else-seen-lt-LIMIT-via-then-seen-lt-LIMIT+else-new-lt-LIMIT, else-seen-lt-LIMIT-via-else-seen-lt-LIMIT}
 use Rattle.lists.proofs.Marks.moved.Goals as goal
 
-pub returns-then-seen-ge-LIMIT : goal.returns-then-seen-ge-LIMIT
-returns-then-seen-ge-LIMIT c = no-mark-there _ _ _ (search rules) c.if-seen-ge-LIMIT.true
+pub returns-then-new-lt-LIMIT : goal.returns-then-new-lt-LIMIT
+returns-then-new-lt-LIMIT c = moved_marks _ _ _ (search rules) _ c.move_item.ensures c.if-new-lt-LIMIT.true
 
-pub returns-then-new-ge-LIMIT : goal.returns-then-new-ge-LIMIT
-returns-then-new-ge-LIMIT c = no-mark-place _ _ _ (search rules) c.if-new-ge-LIMIT.true
-
-pub loop-i-init : goal.loop-i-init
-loop-i-init c = moving-start _ _ _ _ false (search rules) (search rules) (search rules)
-
-pub loop-i-smaller : goal.loop-i-smaller
-loop-i-smaller c = nearer _ _ _ c.toward-j.ensures c.loop-i-test.true
-
-pub loop-i-preserved : goal.loop-i-preserved
-loop-i-preserved c =
-    moving-on _ _ _ _ false _ _ _ _ c.loop-i.invariant c.loop-i-test.true c.toward-j.ensures
-
-pub returns : goal.returns
-returns c = moved_marks _ _ _ (search rules) _ (moving-end _ _ _ _ _ _ _ c.loop-i.invariant c.loop-i-test.false) (search rules)
+pub returns-else-seen-lt-LIMIT : goal.returns-else-seen-lt-LIMIT
+returns-else-seen-lt-LIMIT c =
+    elim c.else-seen-lt-LIMIT.branch [
+      | else-seen-lt-LIMIT-via-then-seen-lt-LIMIT+else-new-lt-LIMIT w ↦ no-mark-place _ _ _ (search rules) w.if-new-lt-LIMIT.false
+      | else-seen-lt-LIMIT-via-else-seen-lt-LIMIT w ↦ no-mark-there _ _ _ (search rules) w.if-seen-lt-LIMIT.false
+    ]

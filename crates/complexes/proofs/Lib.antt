@@ -1,2 +1,0 @@
--- Laws that this crate's proofs share.
-pub mod Laws
