@@ -26,13 +26,6 @@ pub struct Marks {
     pub on: [bool; SimplexList::LIMIT],
 }
 
-// Where a simplex stands in a list, as the look-up answers (crate `lookup`).
-#[derive(Clone, Copy)]
-pub enum Found {
-    At(usize),
-    Missing,
-}
-
 // What a check of the job comes to: nothing to refuse, or a refusal's number and place.
 #[derive(Clone, Copy)]
 pub enum Verdict {
