@@ -4,4 +4,4 @@
 use Rattle.lookup.proofs.find.Goals as goal
 
 pub returns : goal.returns
-returns c = λ l. c.rank_of.ensures _ c.number_of.ensures l
+returns c = λ l. c.rank_of.ensures.rank _ c.number_of.ensures l
