@@ -18,7 +18,7 @@ use Rattle.format.specs.Listed.{is_ranked, listed-ranked, rank-stands}
 use Rattle.format.specs.Marks.{check_steps, steps_then, step-marks, Once}
 use Rattle.lists.specs.declared.Verdict.TheVariants.{Fine, Refused}
 use Rattle.lists.specs.Meaning.{rank_of}
-use Rattle.lists.specs.declared.Found.{Found}
+use Rattle.std.proofs.Common.{Option}
 use Rattle.lookup.specs.Indexed.{Proper, Keyed, Indexed}
 use Rattle.chosen.specs.Meaning.{WalkRead, step_at}
 use Rattle.chosen.proofs.Positions.{then-accepted, all-off}
@@ -109,7 +109,7 @@ step-wide p i = two (get_or p i 0) (cond (ltb (i + 1) (length p)) (get_or p (i +
     two x y = either (ltb x y) x y
 
 -- what the look-up of a step says of the edges, which are entered
-pub looked-up : (p : List ℕ) (i : ℕ) {edges : List Simplex} {keys first next : List ℕ} {n : ℕ} {found : Found} (f : Found) {s : Simplex}
+pub looked-up : (p : List ℕ) (i : ℕ) {edges : List Simplex} {keys first next : List ℕ} {n : ℕ} {found : Option ℕ} (f : Option ℕ) {s : Simplex}
     → s ≡ step_at p i → ((l : List Simplex) → Proper (length s) l → Keyed l keys n → rank_of found ≡ rank s l)
     → Proper 2 edges → Indexed edges keys first next n → found ≡ f → rank (step_at p i) edges ≡ rank_of f
 looked-up p i {edges = edges} f e told proper indexed g =

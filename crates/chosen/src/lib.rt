@@ -8,7 +8,7 @@ ghost use Rattle.lookup.specs.Indexed.{Proper, Indexed};
 ghost use Rattle.lookup.specs.Numbered.{simplices_in};
 ghost use Rattle.chosen.specs.Meaning.{PositionsRead, WalkRead, step_at};
 
-use lists::{Found, Simplex, SimplexList, Verdict};
+use lists::{Simplex, SimplexList, Verdict};
 
 // A verdict, and the marks beside it, which count only where nothing was refused. They stand bare, so that each is set where it is
 // handed back from.
@@ -107,7 +107,7 @@ pub fn read_walk(
     let mut i = 0;
     while i < p.len() {
         let found = lookup::find(keys, first, next, edges, step_at(p, i));
-        let Found::At(rank) = found else {
+        let Some(rank) = found else {
             return ChainRead {
                 verdict: Verdict::Refused(Verdict::CHAIN_ITEM, base + i),
                 on,
