@@ -2,7 +2,7 @@
 // (crate `keys`), so that neither a list is gone through nor copied.
 #![tactic(auto)]
 
-ghost use Rattle.std.specs.Prelude.{◌≡◌, ℕ, List, ◌-◌, ◌≤◌, ◌<◌, length, get_or, IfSome};
+ghost use Rattle.std.specs.Prelude.{◌≡◌, ℕ, List, ◌-◌, ◌≤◌, ◌<◌, length, get_or, IfSome, IfErr};
 ghost use Rattle.format.specs.Simplex.{rank};
 ghost use Rattle.format.specs.Simplex as format;
 ghost use Rattle.lists.specs.Meaning.{vertices_of, simplices_of, rank_of};
@@ -156,7 +156,8 @@ pub fn find_sides(
 ) -> Result<(), usize>
     requires chained { Chained face_keys.now face_first.now face_next.now m }
     requires width_bound { (width ≤ 4) × (m ≤ 65536) × (n ≤ length keys.now) × (n ≤ length sides.old) }
-    ensures { (faces l : List format.Simplex) → Proper (width - 1) faces → Keyed faces face_keys.now m → Proper width l → Keyed l keys.now n → SidesTold faces l sides.new n result }
+    ensures below { IfErr result (λ r. r < n) }
+    ensures sides { (faces l : List format.Simplex) → Proper (width - 1) faces → Keyed faces face_keys.now m → Proper width l → Keyed l keys.now n → SidesTold faces l sides.new n result }
 {
     for rank in 0..n {
         let found = facet_ranks(face_keys, face_first, face_next, m, keys[rank], width);

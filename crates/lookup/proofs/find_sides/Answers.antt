@@ -9,5 +9,5 @@ loop-rank-preserved c =
     finding-on c.loop-rank.invariant c.loop-rank-test.true _ c.facet_ranks-found.ensures
     c.in_ok-sides.ensures.ok_part c.requires.width_bound.3
 
-pub returns : goal.returns
-returns c = finding-end c.loop-rank.invariant (omega arith)
+pub returns-clause-sides : goal.returns-clause-sides
+returns-clause-sides c = finding-end c.loop-rank.invariant (omega arith)
