@@ -15,6 +15,7 @@ use Rattle.format.specs.Reading.{Reading, ◌and_then◌, accepted, refused, Lis
 use Rattle.format.specs.Items.{items-none}
 use Rattle.format.specs.Opened.{opened_from, opened, record-opened, opened_inside, payload-long}
 use Rattle.format.specs.Sound.{AllSound}
+use Rattle.std.proofs.Common.{Err}
 use Rattle.lists.specs.declared.Verdict.{Verdict}
 use Rattle.lists.specs.declared.Verdict.TheVariants.{Refused}
 use Rattle.lists.specs.Verdicts.{reading_of, reading-then}
@@ -22,7 +23,7 @@ use Rattle.lookup.specs.Indexed.{Proper, Blank, Indexed}
 use Rattle.lookup.specs.IndexLaws.{proper-none, indexed-none}
 use Rattle.lookup.specs.Numbered.{simplices_in}
 use Rattle.lookup.specs.NumberedLaws.{none_in}
-use Rattle.lookup.specs.Sides.{Sided, SidesTold}
+use Rattle.lookup.specs.Sides.{SidesUpTo, SidesTold}
 use Rattle.reading_lists.specs.Items.{lack_of, faces_judged, Shaped, ItemsTaken}
 use Rattle.reading_lists.specs.declared.ItemsRead.{ItemsRead}
 use Rattle.reading_lists.proofs.Facing.{Paid, edge-owes-none, others-owe, faces-listed, first-lacks}
@@ -164,29 +165,29 @@ module _ {b : List ℕ} {at kind v : ℕ} {keys first next : List ℕ} {taken : 
   pub edges-read : kind ≤ 2 → list_read kind keys taken ≡ read_list small b at kind v faces
   edges-read edges = kept (λ i lt. edge-owes-none kind _ faces edges)
 
-  module _ (wide : 2 < kind) {sides : List ℕ} {found : ℕ} (looked : SidesTold faces list sides taken.count found) where
-    paid : (i : ℕ) → i < found → Paid kind v faces (get_or list i [])
-    paid i lt = others-owe kind _ faces true wide (looked.listed i lt)
+  module _ (wide : 2 < kind) {sides : List ℕ} where
+    paid : {found : ℕ} → SidesUpTo faces list sides found → (i : ℕ) → i < found → Paid kind v faces (get_or list i [])
+    paid looked i lt = others-owe kind _ faces true wide (looked.listed i lt)
 
-    pub all_found : taken.count ≤ found → FacesFound b at kind v faces keys sides taken taken
-    all_found end = record {
-      reads = kept (λ i lt. paid i (omega arith));
+    pub all_found : SidesUpTo faces list sides taken.count → FacesFound b at kind v faces keys sides taken taken
+    all_found looked = record {
+      reads = kept (paid looked);
       count = refl;
-      sided = λ fine.
-          let all : found ≡ taken.count = omega (arith, looked.within) in
-          subst (Sided faces list sides) all looked.sided;
+      sided = λ fine. looked.sided;
       fine = λ _. refl;
     }
 
-    pub lacking-refused : {refusal : ℕ} → found < taken.count → refusal ≡ lack_of v (take kind (drop (at + header_bytes + kind * found) b))
+    pub lacking-refused : {found refusal : ℕ} → SidesTold faces list sides taken.count (Err found)
+        → refusal ≡ lack_of v (take kind (drop (at + header_bytes + kind * found) b))
         → FacesFound b at kind v faces keys sides taken
         (record { verdict = Refused refusal (at + header_bytes + kind * found); count = taken.count; next = at })
-    lacking-refused lt lack = record {
+    lacking-refused {found} (lt, looked, lacking) lack = record {
       reads =
           ap (λ (k : ℕ). refused k (at + header_bytes + kind * found)) (lack ∙ ap (lack_of v) (sym (told.own found lt)))
           ∙ sym (told.reads faces sound
-          ∙ ap behind (first-lacks kind v faces (at + header_bytes) list (reading_of taken.verdict list) found (omega (arith, told.indexed.keyed.count)) paid
-          (others-owe kind _ faces false wide (looked.lacking lt))));
+          ∙ ap behind (first-lacks kind v faces (at + header_bytes) list (reading_of taken.verdict list) found (omega (arith, told.indexed.keyed.count))
+          (paid looked)
+          (others-owe kind _ faces false wide lacking)));
       count = refl;
       sided = λ fine. let z : ◌≡◌ {A = ℕ} 0 1 = cc in absurd (omega arith);
       fine = λ fine. let z : ◌≡◌ {A = ℕ} 0 1 = cc in absurd (omega arith);
