@@ -48,8 +48,7 @@ pub fn u32_at(s: &[u8], at: usize) -> usize
     u16_at(s, at) + 65536 * u16_at(s, at.saturating_add(2))
 }
 
-// What stands at a place: the end, a broken record or a whole one. One that has no room for its header is broken whatever size
-// is read from what there is of it.
+// What stands at a place: the end, a broken record or a whole one.
 #[tactic(auto, unfolding(format::specs::Reading::header_at))]
 pub fn header_at(job: &[u8], at: usize) -> Header
     ensures { header_of result ≡ header_at job.now at }
@@ -57,11 +56,15 @@ pub fn header_at(job: &[u8], at: usize) -> Header
     if job.len() <= at {
         return Header::Ended;
     }
-    let size = u32_at(job, at);
-    if job.len() < at + Header::BYTES + size {
+    let rest = &job[at..];
+    if rest.len() < Header::BYTES {
         return Header::Broken;
     }
-    let kind = u16_at(job, at + 4);
+    let size = u32_at(rest, 0);
+    if rest.len() < Header::BYTES + size {
+        return Header::Broken;
+    }
+    let kind = u16_at(rest, 4);
     Header::Whole(kind as u16, size)
 }
 
