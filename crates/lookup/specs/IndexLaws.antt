@@ -53,7 +53,7 @@ module _ {s : Simplex} {l : List Simplex} {keys : List ℕ} {n k : ℕ} (proper 
             (sym there.is ∙ e ∙ number_of.is);
       }
 
-  number-found : (j : ℕ) → last_below (eqb k) keys n ≡ suc j → rank s l ≡ ranked j
+  pub number-found : (j : ℕ) → last_below (eqb k) keys n ≡ suc j → rank s l ≡ ranked j
   number-found j e =
       let hit : k ≡ get_or keys j 0 = eqb-true k (get_or keys j 0) (last-passes (eqb k) keys n j e) in
       let stands : StandsAt s l j = own-place j (omega (arith, last_within (eqb k) keys n)) (sym hit) in
@@ -62,7 +62,7 @@ module _ {s : Simplex} {l : List Simplex} {keys : List ℕ} {n k : ℕ} (proper 
       let twice : i ≡ j = one_place s l (proper.once s) i j inside stands.below here stands.here in
       omega arith)
 
-  number-missing : last_below (eqb k) keys n ≡ 0 → rank s l ≡ unlisted
+  pub number-missing : last_below (eqb k) keys n ≡ 0 → rank s l ≡ unlisted
   number-missing e = go (rank s l) refl
     where
       go : (r : Rank) → rank s l ≡ r → rank s l ≡ unlisted
