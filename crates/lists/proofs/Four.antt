@@ -1,5 +1,5 @@
 -- Laws of lists of four places, of which the first few count. They hold by counting: no list here is longer.
-use Prim.Native.Nat.{ℕ, suc, ◌+◌, ◌-◌, ◌≤◌, ◌<◌, min}
+use Prim.Native.Nat.{ℕ, suc, ◌+◌, ◌≤◌, ◌<◌}
 use native.Mathlib.Omega.{arith}
 use mathlib.Core.Path.{◌≡◌, refl, sym, ap₂, ◌∙◌}
 use mathlib.Core.List.{List, [], ◌∷◌}
@@ -41,9 +41,6 @@ spelt l a b e f d h size p q r s =
 
 -- the bytes from a place on, of which `w` are asked for
 module _ (p : List ℕ) (at w i : ℕ) where
-  pub byte_past : min w (length p - at) ≤ i → 0 ≡ get_or (take w (drop at p)) i 0
-  byte_past h = vertex-past w (drop at p) i (omega (arith, length-take w (drop at p), length-drop at p))
-
   pub byte_at : i < w → get_or p (at + i) 0 ≡ get_or (take w (drop at p)) i 0
   byte_at h = sym (get_or-take w (drop at p) i 0 h ∙ get_or-drop at p i 0)
 

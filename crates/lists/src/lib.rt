@@ -225,19 +225,15 @@ pub fn same(a: Simplex, b: Simplex) -> bool
 }
 
 // The vertex at a place of the simplex that `width` bytes from `at` on spell, 0 past the last.
-fn vertex_at(p: &[u8], at: usize, width: usize, place: usize) -> u16
+pub fn vertex_at(p: &[u8], at: usize, width: usize, place: usize) -> u16
+    requires { at + width ≤ length p.now }
     ensures { result ≡ get_or (take width (drop at p.now)) place 0 }
 {
-    if width <= place {
-        return 0;
+    if place < width {
+        p[at + place] as u16
+    } else {
+        0
     }
-    if p.len() <= at {
-        return 0;
-    }
-    if p.len() - at <= place {
-        return 0;
-    }
-    p[at + place] as u16
 }
 
 // The simplex that `width` bytes from `at` on spell.

@@ -2,7 +2,7 @@
 // is its number, which is looked up, so that the lists are neither gone through nor copied.
 #![tactic(auto)]
 
-ghost use Rattle.std.specs.Prelude.{◌≡◌, List, ◌+◌, ◌*◌, ◌≤◌, ◌<◌, length, get_or, take, drop};
+ghost use Rattle.std.specs.Prelude.{◌≡◌, List, ◌+◌, ◌*◌, ◌≤◌, ◌<◌, length, take, drop};
 ghost use Rattle.format.specs.Simplex.{sound_simplex, listed};
 ghost use Rattle.format.specs.Simplex as format;
 ghost use Rattle.keys.specs.Chained.{Chained};
@@ -18,27 +18,15 @@ pub struct ItemsRead {
     pub count: usize,
 }
 
-// The vertex at a place of the simplex that `width` bytes from `at` on spell, 0 past the last.
-fn vertex_at(p: &[u8], at: usize, width: usize, place: usize) -> u16
-    requires { at + width ≤ length p.now }
-    ensures { result ≡ get_or (take width (drop at p.now)) place 0 }
-{
-    if place < width {
-        p[at + place] as u16
-    } else {
-        0
-    }
-}
-
 // The number of the simplex that `width` bytes from `at` on spell.
 fn number_at(p: &[u8], at: usize, width: usize) -> u64
     requires { (width ≤ 4) × (at + width ≤ length p.now) }
     ensures { NumberOf (take width (drop at p.now)) result }
 {
-    let a = vertex_at(p, at, width, 0);
-    let b = vertex_at(p, at, width, 1);
-    let c = vertex_at(p, at, width, 2);
-    let d = vertex_at(p, at, width, 3);
+    let a = lists::vertex_at(p, at, width, 0);
+    let b = lists::vertex_at(p, at, width, 1);
+    let c = lists::vertex_at(p, at, width, 2);
+    let d = lists::vertex_at(p, at, width, 3);
     lookup::number([a, b, c, d])
 }
 
