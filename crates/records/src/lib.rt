@@ -72,7 +72,7 @@ pub fn header_at(job: &[u8], at: usize) -> Header
 pub fn payload<'a>(job: &'a [u8], at: usize, size: usize) -> &'a [u8]
     ensures { result.now ≡ payload_at job.now at size }
 {
-    let start = at.saturating_add(Header::BYTES);
-    let rest = job.get(start..).unwrap_or(&[]);
-    rest.get(..size).unwrap_or(rest)
+    let start = job.len().min(at.saturating_add(Header::BYTES));
+    let rest = &job[start..];
+    &rest[..size.min(rest.len())]
 }
