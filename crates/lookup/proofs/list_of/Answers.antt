@@ -7,7 +7,7 @@ use lib.ListN.{length-take}
 use Rattle.std.proofs.Common.{rules, get_or-take}
 use Rattle.keys.specs.Number.{digits_of}
 use Rattle.lists.specs.Items.{length-mapped}
-use Rattle.lookup.specs.NumberedLaws.{listing_start, listing-on, listing-end}
+use Rattle.lookup.specs.NumberedLaws.{listing_start, listing-on}
 use Rattle.lookup.proofs.list_of.Goals as goal
 
 pub loop-rank-init : goal.loop-rank-init
@@ -19,6 +19,3 @@ loop-rank-preserved c =
     let lt : c.loop-rank.rank < c.args.n = omega (arith, length-take c.args.n keys) in
     listing-on c.simplex_of.result c.loop-rank.invariant (omega arith) (omega arith)
     (c.simplex_of.ensures ∙ ap (digits_of c.args.width) (get_or-take c.args.n keys c.loop-rank.rank 0 lt))
-
-pub returns : goal.returns
-returns c = listing-end c.loop-rank.invariant (omega (arith, length-take c.args.n c.args.keys.now))
