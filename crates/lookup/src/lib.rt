@@ -142,8 +142,8 @@ pub fn facet_ranks(
     Some(ranks)
 }
 
-// The sides of the n simplices of `width` vertices whose numbers the keys are, over the m faces entered, from the first on up
-// to one that lacks a facet, which is refused by its rank.
+// The sides of the n simplices of `width` vertices whose numbers the keys are, over the m faces entered, one after the other.
+// Where one lacks a facet, its rank is the error, and those before it have their sides.
 pub fn find_sides(
     face_keys: &[u64],
     face_first: &[u16],
