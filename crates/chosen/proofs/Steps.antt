@@ -21,7 +21,7 @@ use Rattle.refusals.specs.Readings.{refused_by, not_read, same_read}
 use Rattle.refusals.specs.declared.Refusal.{Refusal}
 use Rattle.lists.specs.declared.Marks.{Marks}
 use Rattle.lists.specs.Meaning.{rank_of}
-use Rattle.lists.specs.declared.Found.{Found}
+use Rattle.std.proofs.Common.{Option}
 use Rattle.lookup.specs.Indexed.{Proper, Keyed, Indexed}
 use Rattle.chosen.specs.Meaning.{WalkRead, step_at}
 use Rattle.chosen.proofs.Positions.{then-accepted, all-off}
@@ -115,7 +115,7 @@ step-wide p i = two (get_or p i 0) (cond (ltb (i + 1) (length p)) (get_or p (i +
     two x y = either (ltb x y) x y
 
 -- what the look-up of a step says of the edges, which are entered
-pub looked-up : (p : List ℕ) (i : ℕ) {edges : List Simplex} {keys first next : List ℕ} {n : ℕ} {found : Found} (f : Found) {s : Simplex}
+pub looked-up : (p : List ℕ) (i : ℕ) {edges : List Simplex} {keys first next : List ℕ} {n : ℕ} {found : Option ℕ} (f : Option ℕ) {s : Simplex}
     → s ≡ step_at p i → ((l : List Simplex) → Proper (length s) l → Keyed l keys n → rank_of found ≡ rank s l)
     → Proper 2 edges → Indexed edges keys first next n → found ≡ f → rank (step_at p i) edges ≡ rank_of f
 looked-up p i {edges = edges} f e told proper indexed g =

@@ -8,7 +8,7 @@ ghost use Rattle.lookup.specs.Indexed.{Proper, Indexed};
 ghost use Rattle.lookup.specs.Numbered.{simplices_in};
 ghost use Rattle.chosen.specs.Meaning.{PositionsRead, WalkRead, step_at};
 
-use lists::{Found, Marks, Simplex};
+use lists::{Marks, Simplex};
 use refusals::{Reason, Refusal};
 
 // The record that says what is asked about: which of the two it is, and the length of its payload.
@@ -95,7 +95,7 @@ pub fn read_walk(
     let mut marks = Marks::none();
     for i in 0..p.len() {
         let found = lookup::find(keys, first, next, edges, step_at(p, i));
-        let Found::At(rank) = found else {
+        let Some(rank) = found else {
             return Err(Reason::ChainItem.at(base + i));
         };
         marks.on[rank] = true;

@@ -1,14 +1,14 @@
 -- The hunt for a key: place i stands behind a key of the key's bucket, or is 0, and what lies below i decides.
-use Prim.Native.Nat.{ℕ, zero, suc, ◌-◌, ◌%◌, ◌≤◌, ◌<◌}
+use Prim.Native.Nat.{ℕ, suc, ◌%◌, ◌≤◌, ◌<◌}
 use mathlib.Core.Path.{◌≡◌, refl, sym, ap, ◌∙◌}
 use mathlib.Core.Bool.{false}
 use mathlib.Core.List.{List}
 use native.Mathlib.Omega.{arith}
-use native.Mathlib.Numerals.{unary_clauses}
+use Rattle.std.proofs.Common.{Some, None}
 use lib.Dec.{eqb}
 use lib.ListN.{get_or}
 use borrow.Author.Tests.{eq-eqb, ne_eqb, eqb-true, eqb-false}
-use Rattle.keys.specs.Chained.{Chained, last_below, in_bucket, buckets, last-hit, last-miss, last_within, last-passes, last-through}
+use Rattle.keys.specs.Chained.{Chained, last_below, in_bucket, buckets, place_of, last-hit, last-miss, last_within, last-passes, last-through}
 
 pub record Hunt (keys first next : List ℕ) (n key i : ℕ) : Type 0 where
   pub chained : Chained keys first next n
@@ -38,29 +38,30 @@ pub hunt-start : {keys first next : List ℕ} {n key i : ℕ} → Chained keys f
 hunt-start {keys} {first} {next} {n} {key} {i} c e =
     onward keys first next n key n i c (omega arith) (e ∙ c.begin (key % buckets) (omega arith)) refl
 
-pub hunt-found : {keys first next : List ℕ} {n key : ℕ} (i : ℕ) → Hunt keys first next n key i → 0 < i → get_or keys (i - 1) 0 ≡ key
-    → i ≡ last_below (eqb key) keys n
-hunt-found {keys} {first} {next} {n} {key} zero h pos e = absurd (omega arith)
-hunt-found {keys} {first} {next} {n} {key} (suc j) h pos e =
-    sym (h.rest ∙ last-hit (eqb key) keys j (eq-eqb key (get_or keys j 0) (sym (simp unary_clauses at e))))
+-- place j was reached
+module _ {keys first next : List ℕ} {n key i j : ℕ} (h : Hunt keys first next n key i) (at : i ≡ suc j) where
+  below : j < n
+  below = omega (arith, h.within)
 
-pub hunt-on : {keys first next : List ℕ} {n key : ℕ} (i : ℕ) → Hunt keys first next n key i → 0 < i → (get_or keys (i - 1) 0 ≡ key → ⊥)
-    → Hunt keys first next n key (get_or next (i - 1) 0)
-hunt-on {keys} {first} {next} {n} {key} zero h pos e = absurd (omega arith)
-hunt-on {keys} {first} {next} {n} {key} (suc j) h pos e =
-    simp unary_clauses (onward keys first next n key j _ h.chained (omega (arith, h.within))
-    (h.chained.before j (omega (arith, h.within)) ∙ ap (λ (b : ℕ). last_below (in_bucket b) keys j) (h.hit j refl))
-    (h.rest ∙ last-miss (eqb key) keys j (ne_eqb key (get_or keys j 0) (λ s. e (simp unary_clauses (sym s))))))
+  falling : get_or next j 0 ≡ last_below (in_bucket (key % buckets)) keys j
+  falling = h.chained.before j below ∙ ap (λ (b : ℕ). last_below (in_bucket b) keys j) (h.hit j at)
 
--- the chain falls
-pub hunt-falls : {keys first next : List ℕ} {n key : ℕ} (i : ℕ) → Hunt keys first next n key i → 0 < i → get_or next (i - 1) 0 < i
-hunt-falls {keys} {first} {next} {n} {key} zero h pos = absurd (omega arith)
-hunt-falls {keys} {first} {next} {n} {key} (suc j) h pos =
-    let falls : get_or next j 0 < suc j = omega (arith, h.chained.before j (omega (arith, h.within)), last_within (in_bucket (get_or keys j 0 % buckets)) keys j) in
-    simp unary_clauses falls
+  rests : last_below (eqb key) keys n ≡ last_below (eqb key) keys (suc j)
+  rests = h.rest ∙ ap (last_below (eqb key) keys) at
 
-pub hunt-end : {keys first next : List ℕ} {n key i : ℕ} → Hunt keys first next n key i → i ≤ 0 → 0 ≡ last_below (eqb key) keys n
+  pub hunt-found : get_or keys j 0 ≡ key → Some j ≡ place_of (last_below (eqb key) keys n)
+  hunt-found e = ap place_of (sym (rests ∙ last-hit (eqb key) keys j (eq-eqb key (get_or keys j 0) (sym e))))
+
+  pub hunt-on : (get_or keys j 0 ≡ key → ⊥) → Hunt keys first next n key (get_or next j 0)
+  hunt-on e =
+      onward keys first next n key j _ h.chained (omega (arith, below)) falling
+      (rests ∙ last-miss (eqb key) keys j (ne_eqb key (get_or keys j 0) (λ s. e (sym s))))
+
+  -- the chain falls
+  pub hunt-falls : get_or next j 0 < i
+  hunt-falls = omega (arith, falling, last_within (in_bucket (key % buckets)) keys j)
+
+pub hunt-end : {keys first next : List ℕ} {n key i : ℕ} → Hunt keys first next n key i → i ≡ 0
+    → None ≡ place_of (last_below (eqb key) keys n)
 unfolding last_below
-hunt-end {keys} {first} {next} {n} {key} {i} h l =
-    let none : i ≡ 0 = omega arith in
-    sym (h.rest ∙ ap (last_below (eqb key) keys) none)
+hunt-end {keys} {key = key} h none = ap place_of (sym (h.rest ∙ ap (last_below (eqb key) keys) none))

@@ -1,6 +1,6 @@
 -- The look-up of a key without going through all keys: each bucket leads to its last key, each key to the one before it in
 -- the same bucket. A key that is met last is the last of its kind, so the answer is stated without buckets.
-use Rattle.std.specs.Prelude.{ℕ, zero, suc, ◌%◌, ◌≤◌, ◌<◌, ◌≡◌, refl, Bool, true, false, cond, List, eqb, length, get_or, set, replicate}
+use Rattle.std.specs.Prelude.{ℕ, zero, suc, ◌%◌, ◌≤◌, ◌<◌, ◌≡◌, refl, Bool, true, false, cond, Option, Some, None, List, eqb, length, get_or, set, replicate}
 use Rattle.std.proofs.Common.{sym, ap, ap₂, ◌∙◌, subst, arith, length-set, get_or-set_same, get_or-set_other, eq-eqb, ne_eqb}
 use Rattle.std.proofs.lemmas.List.{length-replicate}
 use Rattle.std.proofs.Math.Decide.{ℕ_discrete}
@@ -9,6 +9,11 @@ use Rattle.std.proofs.Math.Decide.{ℕ_discrete}
 unfoldable pub last_below : (ℕ → Bool) → List ℕ → ℕ → ℕ
 last_below p l zero = zero
 last_below p l (suc n) = cond (p (get_or l n 0)) (suc n) (last_below p l n)
+
+-- that place
+abbrev pub place_of : ℕ → Option ℕ
+place_of zero = None
+place_of (suc i) = Some i
 
 abbrev pub buckets : ℕ
 buckets = 1021

@@ -2,26 +2,26 @@
 #![tactic(auto)]
 
 ghost use Rattle.std.specs.Prelude.{◌≡◌, ◌<◌, eqb, length};
-ghost use Rattle.keys.specs.Chained.{Chained, Linked, last_below};
+ghost use Rattle.keys.specs.Chained.{Chained, Linked, last_below, place_of};
 
 // How many buckets the keys are spread over: the largest prime below twice a list's limit. Which prime suits best depends on the
 // mesh; decision 15 has what was measured.
 pub const BUCKETS: usize = 1021;
 
-// One more than the place of a key among the first n, 0 where it is not there.
-pub fn find(keys: &[u64], first: &[u16], next: &[u16], n: usize, key: u64) -> usize
+// The place of a key among the first n.
+pub fn find(keys: &[u64], first: &[u16], next: &[u16], n: usize, key: u64) -> Option<usize>
     requires { Chained keys.now first.now next.now n }
-    ensures { result ≡ last_below (eqb key) keys.now n }
+    ensures { result ≡ place_of (last_below (eqb key) keys.now n) }
 {
     let bucket = (key % BUCKETS as u64) as usize;
-    let mut i = first[bucket] as usize;
-    while 0 < i {
-        if keys[i - 1] == key {
-            return i;
+    let mut link = first[bucket] as usize;
+    while let Some(place) = link.checked_sub(1) {
+        if keys[place] == key {
+            return Some(place);
         }
-        i = next[i - 1] as usize;
+        link = next[place] as usize;
     }
-    0
+    None
 }
 
 // Puts a key behind the first n: its bucket leads to it, and it leads where the bucket led.

@@ -9,6 +9,7 @@ use Rattle.format.specs.Simplex.{Simplex}
 use Rattle.format.specs.Simplex as format
 use Rattle.format.specs.Lookup.{stands-listed}
 use Rattle.format.specs.Sound.{SoundComplex}
+use Rattle.std.proofs.Common.{Result}
 use Rattle.lists.specs.Meaning.{simplices_of}
 use Rattle.lookup.specs.Indexed.{Proper, Keyed}
 use Rattle.lookup.specs.IndexLaws.{sound-proper}
@@ -22,12 +23,12 @@ use Rattle.lent_lists.specs.Held.{complex_in, Room, Held, HoldsNow}
 use Rattle.lent_lists.specs.declared.Counts.{Counts}
 
 -- what finding the sides of a list comes to
-abbrev pub SidesFind : (width : ℕ) → List ℕ → ℕ → List ℕ → ℕ → List ℕ → ℕ → Type 0
+abbrev pub SidesFind : (width : ℕ) → List ℕ → ℕ → List ℕ → ℕ → List ℕ → Result (Unit {0}) ℕ → Type 0
 SidesFind width face_keys m keys n sides found =
     (faces l : List Simplex) → Proper width faces → Keyed faces face_keys m → Proper (suc width) l → Keyed l keys n
     → SidesTold faces l sides n found
 
-module _ (Y : Complex) {e_keys t_keys s_keys t_sides s_sides : List ℕ} {e t s t_found s_found : ℕ}
+module _ (Y : Complex) (t_found s_found : Result (Unit {0}) ℕ) {e_keys t_keys s_keys t_sides s_sides : List ℕ} {e t s : ℕ}
     (room : Room (complex_of Y) e_keys t_keys s_keys t_sides s_sides)
     (edges : Keyed (simplices_of Y.edges) e_keys e)
     (triangles : Keyed (simplices_of Y.triangles) t_keys t)
@@ -61,11 +62,11 @@ module _ (Y : Complex) {e_keys t_keys s_keys t_sides s_sides : List ℕ} {e t s 
       tetrahedra = subst (λ (l : List Simplex). Keyed l s_keys s) (sym tetrahedra-in) tetrahedra;
       triangle_sides =
           subst₂ (λ (f l : List Simplex). Sided f l t_sides t) (sym edges-in) (sym triangles-in)
-          (sides-closed (triangle_sides _ _ (sound-proper sound.edges) edges (sound-proper sound.triangles) triangles) triangles.count
+          (sides-closed t_found (triangle_sides _ _ (sound-proper sound.edges) edges (sound-proper sound.triangles) triangles) triangles.count
           (λ i lt. sound.triangles.closed _ (stands-listed _ (simplices_of Y.triangles) i (record { below = lt; here = refl }))));
       tetrahedron_sides =
           subst₂ (λ (f l : List Simplex). Sided f l s_sides s) (sym triangles-in) (sym tetrahedra-in)
-          (sides-closed (tetrahedron_sides _ _ (sound-proper sound.triangles) triangles (sound-proper sound.tetrahedra) tetrahedra)
+          (sides-closed s_found (tetrahedron_sides _ _ (sound-proper sound.triangles) triangles (sound-proper sound.tetrahedra) tetrahedra)
           tetrahedra.count (λ i lt. sound.tetrahedra.closed _ (stands-listed _ (simplices_of Y.tetrahedra) i (record { below = lt; here = refl }))));
     }
 

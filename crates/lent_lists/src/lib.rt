@@ -75,7 +75,7 @@ pub fn complex_of(
 }
 
 // Puts a complex into the arrays: the numbers of its edges (e), triangles (t) and tetrahedra (s), and the sides of the latter.
-// How many sides are found is not looked at: no simplex of a sound complex lacks a facet.
+// Whether all sides are found is not asked: no simplex of a sound complex lacks a facet.
 fn hold(
     complex: &Complex,
     e_keys: &mut [u64],
@@ -96,10 +96,10 @@ fn hold(
     let mut s_first = [0u16; BUCKETS];
     let mut s_next = [0u16; SimplexList::LIMIT];
     let tetrahedra = lookup::index(complex.tetrahedra, s_keys, &mut s_first, &mut s_next);
-    lookup::find_sides(
+    let _ = lookup::find_sides(
         e_keys, &e_first, &e_next, edges, t_keys, triangles, 3, t_sides,
     );
-    lookup::find_sides(
+    let _ = lookup::find_sides(
         t_keys, &t_first, &t_next, triangles, s_keys, tetrahedra, 4, s_sides,
     );
     Counts {

@@ -1,11 +1,9 @@
 -- The meaning of the structs and enums, for every contract of this crate and of the readers above it.
-use Rattle.std.specs.Prelude.{suc, List, [], map, take}
+use Rattle.std.specs.Prelude.{ℕ, suc, Option, Some, None, List, [], map, take}
 use Rattle.format.specs.Simplex.{Rank, ranked, unlisted}
 use Rattle.format.specs.Simplex as format
 use Rattle.lists.specs.declared.Simplex.{Simplex}
 use Rattle.lists.specs.declared.SimplexList.{SimplexList}
-use Rattle.lists.specs.declared.Found.{Found}
-use Rattle.lists.specs.declared.Found.TheVariants.{At, Missing}
 
 -- what stands at a place outside an array of simplices
 abbrev pub none : Simplex
@@ -20,6 +18,6 @@ abbrev pub simplices_of : SimplexList → List format.Simplex
 simplices_of l = map vertices_of (take l.count l.items)
 
 -- the place where a look-up found the simplex is its rank
-abbrev pub rank_of : Found → Rank
-rank_of (At i) = ranked i
-rank_of Missing = unlisted
+abbrev pub rank_of : Option ℕ → Rank
+rank_of (Some i) = ranked i
+rank_of None = unlisted

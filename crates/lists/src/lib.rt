@@ -28,13 +28,6 @@ pub struct Marks {
     pub on: [bool; SimplexList::LIMIT],
 }
 
-// Where a simplex stands in a list, as the look-up answers (crate `lookup`).
-#[derive(Clone, Copy)]
-pub enum Found {
-    At(usize),
-    Missing,
-}
-
 impl Simplex {
     // What stands at a place that holds no simplex.
     pub fn none() -> Self {

@@ -1,6 +1,6 @@
 -- Why a list is looked up by its keys: in a proper list the simplex with a number is the only one, so the last place that
 -- holds the number is the rank.
-use Rattle.std.specs.Prelude.{ℕ, suc, ◌+◌, ◌*◌, ◌≤◌, ◌<◌, ◌≡◌, refl, Bool, true, false, cond, List, [], ◌∷◌, ◌++◌, eqb, length, take, get_or, set, replicate}
+use Rattle.std.specs.Prelude.{ℕ, zero, suc, ◌+◌, ◌*◌, ◌≤◌, ◌<◌, ◌≡◌, refl, Bool, true, false, cond, IfSome, List, [], ◌∷◌, ◌++◌, eqb, length, take, get_or, set, replicate}
 use Rattle.std.proofs.Common.{sym, ap, ◌∙◌, subst, arith, add-one, length-append, get_or-set_same, get_or-set_other, take-suc, take_all, eq-eqb, eqb-true}
 use Rattle.std.proofs.Math.Decide.{ℕ_discrete}
 use Rattle.std.proofs.lemmas.List.{length-replicate}
@@ -10,17 +10,33 @@ use Rattle.format.specs.Simplex.{Simplex, Rank, ranked, unlisted, rank, listed, 
 use Rattle.format.specs.Listed.{StandsAt, rank-stands, same-equal, true-not-false}
 use Rattle.format.specs.Lookup.{first-ranked, stands-listed}
 use Rattle.format.specs.Sound.{SoundList, copies, copies-append, unlisted-copies, one_place}
-use Rattle.keys.specs.Chained.{Chained, Linked, last_below, buckets, last_within, last-passes, last_none, chained-none}
+use Rattle.keys.specs.Chained.{Chained, Linked, last_below, place_of, buckets, last_within, last-passes, last_none, chained-none}
 use Rattle.keys.specs.Number.{digit, number, number_same, number-four, digits-four}
+use Rattle.lists.specs.Meaning.{rank_of}
 use Rattle.lookup.specs.Indexed.{Proper, NumberOf, Keyed, Indexed, Blank, Entered}
 
+-- four vertices are those of a simplex if each is
+pub four_places : (s : Simplex) {a b e f : ℕ} → a ≡ get_or s 0 0 → b ≡ get_or s 1 0 → e ≡ get_or s 2 0 → f ≡ get_or s 3 0
+    → (i : ℕ) → i < 4 → get_or (a ∷ b ∷ e ∷ f ∷ []) i 0 ≡ get_or s i 0
+four_places s p q r t zero lt = p
+four_places s p q r t (suc zero) lt = q
+four_places s p q r t (suc (suc zero)) lt = r
+four_places s p q r t (suc (suc (suc zero))) lt = t
+four_places s p q r t (suc (suc (suc (suc i)))) lt = absurd (omega arith)
+
 -- A simplex's number, from its four places.
-pub number-told : (s : Simplex) (a b e f : ℕ) → length s ≤ 4 → a ≡ get_or s 0 0 → b ≡ get_or s 1 0 → e ≡ get_or s 2 0 → f ≡ get_or s 3 0
-    → a < digit → b < digit → e < digit → f < digit → NumberOf s (a + digit * (b + digit * (e + digit * f)))
-number-told s a b e f few p q r t pa qb re tf = record {
-  is = omega (arith, number-four s few);
-  digits = digits-four s few (omega arith) (omega arith) (omega arith) (omega arith);
-}
+pub number-told : (s : Simplex) (v : List ℕ) → length s ≤ 4 → ((i : ℕ) → i < 4 → get_or v i 0 ≡ get_or s i 0)
+    → get_or v 0 0 < digit → get_or v 1 0 < digit → get_or v 2 0 < digit → get_or v 3 0 < digit
+    → NumberOf s (get_or v 0 0 + digit * (get_or v 1 0 + digit * (get_or v 2 0 + digit * get_or v 3 0)))
+number-told s v few places pa qb re tf =
+    let p : get_or v 0 0 ≡ get_or s 0 0 = places 0 (omega arith) in
+    let q : get_or v 1 0 ≡ get_or s 1 0 = places 1 (omega arith) in
+    let r : get_or v 2 0 ≡ get_or s 2 0 = places 2 (omega arith) in
+    let t : get_or v 3 0 ≡ get_or s 3 0 = places 3 (omega arith) in
+    record {
+      is = omega (arith, number-four s few);
+      digits = digits-four s few (omega arith) (omega arith) (omega arith) (omega arith);
+    }
 
 -- THE LOOK-UP of the simplex s with number k.
 module _ {s : Simplex} {l : List Simplex} {keys : List ℕ} {n k : ℕ} (proper : Proper (length s) l) (keyed : Keyed l keys n)
@@ -57,6 +73,22 @@ module _ {s : Simplex} {l : List Simplex} {keys : List ℕ} {n k : ℕ} (proper 
           let same : k ≡ get_or keys i 0 = number_of.is ∙ ap number (sym stands.here) ∙ sym there.is in
           true-not-false (eqb k (get_or keys i 0)) (eq-eqb k (get_or keys i 0) same)
           (last_none (eqb k) keys n e i (omega (arith, keyed.count, stands.below)))
+
+  -- the last place that holds the number is the rank
+  pub number-ranked : rank_of (place_of (last_below (eqb k) keys n)) ≡ rank s l
+  number-ranked = go (last_below (eqb k) keys n) refl
+    where
+      go : (j : ℕ) → last_below (eqb k) keys n ≡ j → rank_of (place_of j) ≡ rank s l
+      go zero e = sym (number-missing e)
+      go (suc j) e = sym (number-found j e)
+
+-- and it is below n
+pub place-below : (p : ℕ → Bool) (keys : List ℕ) (n : ℕ) → IfSome (place_of (last_below p keys n)) (λ r. r < n)
+place-below p keys n = go (last_below p keys n) (last_within p keys n)
+  where
+    go : (j : ℕ) → j ≤ n → IfSome (place_of j) (λ r. r < n)
+    go zero le = tt
+    go (suc j) le = omega arith
 
 -- PROPER LISTS: the empty one, one simplex more, and every list that was read.
 pub proper-none : (width : ℕ) → Proper width []

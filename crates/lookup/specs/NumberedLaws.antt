@@ -11,7 +11,6 @@ use Rattle.keys.specs.Number.{digit, number, number-none, number_more, Digits, n
 use Rattle.lists.specs.Meaning.{vertices_of, simplices_of}
 use Rattle.lists.specs.Items.{appended}
 use Rattle.lists.specs.declared.Simplex as code
-use Rattle.lists.specs.declared.SimplexList.{SimplexList}
 use Rattle.lookup.specs.Indexed.{Proper, NumberOf, Keyed, Entered}
 use Rattle.lookup.specs.Numbered.{simplices_in}
 
@@ -151,32 +150,26 @@ module _ (width : ℕ) (keys : List ℕ) where
       ∙ ap (λ (t : Simplex). map (digits_of width) (take n keys) ++ (t ∷ []))
       (vertices-own {s = s} {k = number s} (record { is = refl; digits = e.digits }) wide)
 
--- THE LOOP that lists the simplices of numbers: each turn appends the next.
-pub record Listing (width : ℕ) (keys : List ℕ) (n : ℕ) (l : SimplexList) : Type 0 where
-  pub listed : simplices_of l ≡ simplices_in width keys l.count
-  pub full : length l.items ≡ 512
-  pub within : l.count ≤ n
+-- THE LOOP that lists the simplices of numbers: the first i items are those of the first i numbers.
+pub record Listing (width : ℕ) (keys : List ℕ) (items : List code.Simplex) (i : ℕ) : Type 0 where
+  pub listed : simplices_of (record { items = items; count = i }) ≡ simplices_in width keys i
+  pub full : length items ≡ 512
 
-pub listing_start : (width : ℕ) (keys : List ℕ) (n : ℕ) (l : SimplexList) → length l.items ≡ 512
-    → (simplices_of l ≡ []) × (l.count ≡ 0) → Listing width keys n l
-listing_start width keys n l full e = record {
-  listed = e.0 ∙ sym (none_in width keys) ∙ ap (simplices_in width keys) (sym e.1);
-  full = full;
-  within = omega (arith, e.1);
+pub listing_start : (width : ℕ) (keys : List ℕ) (items : List code.Simplex) → length items ≡ 512 → Listing width keys items 0
+listing_start width keys items full = record { listed = sym (none_in width keys); full = full }
+
+pub listing-on : {width : ℕ} {keys : List ℕ} {items : List code.Simplex} {i : ℕ} (s : code.Simplex) → Listing width keys items i
+    → i < 512 → i < length keys → vertices_of s ≡ digits_of width (get_or keys i 0) → Listing width keys (set items i s) (i + 1)
+listing-on {width} {keys} {items} {i} s a lt room here = record {
+  listed =
+      appended (record { items = items; count = i }) s (omega (arith, a.full))
+      ∙ ap₂ (λ (k : List Simplex) (t : Simplex). k ++ (t ∷ [])) a.listed here
+      ∙ sym (next-in width keys i room)
+      ∙ ap (simplices_in width keys) (sym (add-one i));
+  full = length-set items i s ∙ a.full;
 }
 
-module _ {width : ℕ} {keys : List ℕ} {n : ℕ} {l : SimplexList} (a : Listing width keys n l) where
-  pub listing-on : (s : code.Simplex) → n ≤ 512 → n ≤ length keys → l.count < n → vertices_of s ≡ digits_of width (get_or keys l.count 0)
-      → Listing width keys n (record { items = set l.items l.count s; count = l.count + 1 })
-  listing-on s few room lt here = record {
-    listed =
-        appended l s (omega (arith, a.full))
-        ∙ ap₂ (λ (k : List Simplex) (t : Simplex). k ++ (t ∷ [])) a.listed here
-        ∙ sym (next-in width keys l.count (omega arith))
-        ∙ ap (simplices_in width keys) (sym (add-one l.count));
-    full = length-set l.items l.count s ∙ a.full;
-    within = omega arith;
-  }
-
-  pub listing-end : n ≤ l.count → simplices_of l ≡ simplices_in width keys n
-  listing-end ge = let e : l.count ≡ n = omega (arith, a.within) in a.listed ∙ ap (simplices_in width keys) e
+pub listing-end : {width : ℕ} {keys : List ℕ} {items : List code.Simplex} {i n : ℕ} → Listing width keys items i → i ≡ n
+    → simplices_of (record { items = items; count = n }) ≡ simplices_in width keys n
+listing-end {width} {keys} {items} a e =
+    subst (λ (m : ℕ). simplices_of (record { items = items; count = m }) ≡ simplices_in width keys m) e a.listed

@@ -1,5 +1,5 @@
 -- Sides are found facet by facet, from that without the first vertex on, and taken off again from the last one on.
-use Rattle.std.specs.Prelude.{ℕ, zero, suc, ◌+◌, ◌-◌, ◌*◌, ◌/◌, ◌%◌, ◌≤◌, ◌<◌, ◌≡◌, refl, true, false, List, [], length, get_or, set, eqb}
+use Rattle.std.specs.Prelude.{ℕ, zero, suc, ◌+◌, ◌-◌, ◌*◌, ◌/◌, ◌%◌, ◌≤◌, ◌<◌, ◌≡◌, refl, true, false, Option, Some, None, Result, Ok, Err, List, [], length, get_or, set}
 use Rattle.std.proofs.Common.{arith, add-one, sym, ap, ◌∙◌, subst, length-set, get_or-set_same, get_or-set_other}
 use Rattle.std.proofs.Math.Decide.{ℕ_discrete}
 use Rattle.format.specs.Simplex.{Simplex, Rank, ranked, unlisted, rank, facets, all_listed}
@@ -8,13 +8,9 @@ use Rattle.format.specs.Reading.{without}
 use Rattle.format.specs.Moves.{length_without}
 use Rattle.format.specs.Facets.{facets_below, facets-below, facet-missing, facet-found, facets-none}
 use Rattle.format.specs.Matrix.{Closed}
-use Rattle.keys.specs.Chained.{last_below, last_within}
 use Rattle.keys.specs.Number.{digit}
 use Rattle.lookup.specs.Indexed.{Proper, NumberOf, Keyed}
-use Rattle.lookup.specs.IndexLaws.{number-found, number-missing}
-use Rattle.lookup.specs.Sides.{Sides, none, more, Sided, FacetsTold, SidesTold}
-use Rattle.lookup.specs.declared.Facets.{Facets}
-use Rattle.lookup.specs.declared.Facets.TheVariants.{Ranked, Lacking}
+use Rattle.lookup.specs.Sides.{Sides, none, more, Sided, FacetsTold, SidesUpTo, SidesTold}
 
 module _ {faces : List Simplex} {s : Simplex} where
   -- one facet more, as the lowest digit
@@ -78,56 +74,35 @@ siding-start keys n number width = record {
 
 module _ {keys : List ℕ} {n number width skip k : ℕ} (a : Siding keys n number width skip k) where
   pub siding-end : width ≤ skip → (s : Simplex) → NumberOf s number → length s ≡ width → (faces : List Simplex)
-      → Proper (width - 1) faces → Keyed faces keys n → FacetsTold faces s (Ranked k)
+      → Proper (width - 1) faces → Keyed faces keys n → FacetsTold faces s (Some k)
   siding-end end s own size faces proper keyed =
       let all : skip ≡ length s = omega (arith, a.within) in
-      let known = a.found s own size faces proper keyed in
-      record {
-        listed = λ e. told all known e;
-        lacking = λ e. let z : ◌≡◌ {A = ℕ} 0 1 = cc in absurd (omega arith);
-      }
-    where
-      told : {j : ℕ} {s : Simplex} {faces : List Simplex} → skip ≡ length s
-          → (all_listed (facets_below skip s) faces ≡ true) × Sides faces s skip k → Ranked k ≡ Ranked j
-          → (all_listed (facets s) faces ≡ true) × Sides faces s (length s) j
-      told {j} {s} {faces} all known e =
-          let same : k ≡ j = cc in (
-            ap (λ (l : List Simplex). all_listed l faces) (facets-below s)
-                ∙ ap (λ (m : ℕ). all_listed (facets_below m s) faces) (sym all)
-                ∙ known.0,
-            subst (Sides faces s (length s)) same (subst (λ (m : ℕ). Sides faces s m k) all known.1),
-          )
+      let known = a.found s own size faces proper keyed in (
+        ap (λ (l : List Simplex). all_listed l faces) (facets-below s)
+            ∙ ap (λ (m : ℕ). all_listed (facets_below m s) faces) (sym all)
+            ∙ known.0,
+        subst (λ (m : ℕ). Sides faces s m k) all known.1,
+      )
 
   -- the facet that leaves out the next vertex was looked up by its number
-  module _ (below : skip < width) (few : width ≤ 4) {facet place : ℕ}
+  module _ (below : skip < width) (few : width ≤ 4) {facet : ℕ}
       (facet-own : (s : Simplex) → NumberOf s number → length s ≤ 4 → skip < length s → NumberOf (without skip s) facet)
-      (looked : place ≡ last_below (eqb facet) keys n) where
+      {r : Rank} (looked : (s : Simplex) → NumberOf s facet → (l : List Simplex) → Proper (length s) l → Keyed l keys n → r ≡ rank s l) where
     module _ (s : Simplex) (own : NumberOf s number) (size : length s ≡ width) (faces : List Simplex)
         (proper : Proper (width - 1) faces) (keyed : Keyed faces keys n) where
-      short : Proper (length (without skip s)) faces
-      short =
+      facet-ranked : rank (without skip s) faces ≡ r
+      facet-ranked =
           let e : width - 1 ≡ length (without skip s) = omega (arith, length_without skip s (omega arith)) in
-          subst (λ (w : ℕ). Proper w faces) e proper
+          sym (looked (without skip s) (facet-own s own (omega arith) (omega arith)) faces
+          (subst (λ (w : ℕ). Proper w faces) e proper) keyed)
 
-      pub siding-lacks : place ≡ 0 → FacetsTold faces s Lacking
-      siding-lacks none_found = record {
-        listed = λ e. let z : ◌≡◌ {A = ℕ} 0 1 = cc in absurd (omega arith);
-        lacking = λ e.
-            ap (λ (l : List Simplex). all_listed l faces) (facets-below s)
-            ∙ lacking-one s faces (length s) skip (omega arith)
-            (number-missing short keyed (facet-own s own (omega arith) (omega arith)) (sym looked ∙ none_found));
-      }
+      pub siding-lacks : r ≡ unlisted → FacetsTold faces s None
+      siding-lacks none_found =
+          ap (λ (l : List Simplex). all_listed l faces) (facets-below s)
+          ∙ lacking-one s faces (length s) skip (omega arith) (facet-ranked ∙ none_found)
 
-      facet-ranked : (place ≡ 0 → ⊥) → rank (without skip s) faces ≡ ranked (place - 1)
-      facet-ranked some =
-          number-found short keyed (facet-own s own (omega arith) (omega arith)) (place - 1) (omega (arith, looked))
-
-    pub place-below : n ≤ 65536 → (place ≡ 0 → ⊥) → place - 1 < 65536
-    place-below room some = omega (arith, last_within (eqb facet) keys n, looked)
-
-    pub siding-on : n ≤ 65536 → (place ≡ 0 → ⊥) → Siding keys n number width (skip + 1) (k * 65536 + (place - 1))
-    siding-on room some =
-        let low : place - 1 < 65536 = place-below room some in
+    pub siding-on : {i : ℕ} → r ≡ ranked i → i < 65536 → Siding keys n number width (skip + 1) (k * 65536 + i)
+    siding-on {i} some low =
         record {
           within = omega arith;
           no_digit = λ le. absurd (omega arith);
@@ -137,9 +112,9 @@ module _ {keys : List ℕ} {n number width skip k : ℕ} (a : Siding keys n numb
           found = λ s own size faces proper keyed.
               let known = a.found s own size faces proper keyed in
               let last : skip ≡ suc skip - 1 = omega arith in
-              let next = facet-ranked s own size faces proper keyed some in
-              subst (λ (m : ℕ). (all_listed (facets_below m s) faces ≡ true) × Sides faces s m (k * 65536 + (place - 1))) (sym (add-one skip)) (
-                facet-found s faces (suc skip) (place - 1) (omega arith) (ap (λ (m : ℕ). rank (without m s) faces) (sym last) ∙ next)
+              let next = facet-ranked s own size faces proper keyed ∙ some in
+              subst (λ (m : ℕ). (all_listed (facets_below m s) faces ≡ true) × Sides faces s m (k * 65536 + i)) (sym (add-one skip)) (
+                facet-found s faces (suc skip) i (omega arith) (ap (λ (m : ℕ). rank (without m s) faces) (sym last) ∙ next)
                     ∙ ap (λ (m : ℕ). all_listed (facets_below m s) faces) (sym last)
                     ∙ known.0,
                 sides-more known.1 next low,
@@ -173,19 +148,18 @@ listed_more faces l {n} old new i lt = elim (ℕ_discrete i n) [
 
 -- THE LOOP over a list: the facets of its first i simplices are listed, and their sides found.
 pub record SidesFound (face_keys : List ℕ) (m : ℕ) (keys : List ℕ) (n width : ℕ) (sides₀ sides : List ℕ) (i : ℕ) : Type 0 where
-  pub within : i ≤ n
   pub long : length sides ≡ length sides₀
   pub found : (faces l : List Simplex) → Proper (width - 1) faces → Keyed faces face_keys m → Proper width l → Keyed l keys n
-      → ((j : ℕ) → j < i → all_listed (facets (get_or l j [])) faces ≡ true) × Sided faces l sides i
+      → SidesUpTo faces l sides i
 
 pub finding-start : (face_keys : List ℕ) (m : ℕ) (keys : List ℕ) (n width : ℕ) (sides : List ℕ)
     → SidesFound face_keys m keys n width sides sides 0
 finding-start face_keys m keys n width sides =
-    record { within = omega arith; long = refl; found = λ faces l p k wide own. (λ j lt. absurd (omega arith), sided-none) }
+    record { long = refl; found = λ faces l p k wide own. record { listed = λ j lt. absurd (omega arith); sided = sided-none } }
 
 module _ {face_keys : List ℕ} {m : ℕ} {keys : List ℕ} {n width : ℕ} {sides₀ sides : List ℕ} {i : ℕ}
     (a : SidesFound face_keys m keys n width sides₀ sides i) where
-  module _ (below : i < n) {r : Facets}
+  module _ (below : i < n) (r : Option ℕ)
       (looked : (s : Simplex) → NumberOf s (get_or keys i 0) → length s ≡ width → (faces : List Simplex) → Proper (width - 1) faces
       → Keyed faces face_keys m → FacetsTold faces s r) where
     -- what the look-up of the next simplex says of it in a list
@@ -194,37 +168,33 @@ module _ {face_keys : List ℕ} {m : ℕ} {keys : List ℕ} {n width : ℕ} {sid
     told faces l p k wide own =
         looked (get_or l i []) (own.own i below) (wide.wide i (omega (arith, own.count))) faces p k
 
-    pub finding-on : {k : ℕ} → r ≡ Ranked k → n ≤ length sides₀ → SidesFound face_keys m keys n width sides₀ (set sides i k) (i + 1)
+    pub finding-on : {k : ℕ} → r ≡ Some k → n ≤ length sides₀ → SidesFound face_keys m keys n width sides₀ (set sides i k) (i + 1)
     finding-on {k} e room =
         subst (SidesFound face_keys m keys n width sides₀ (set sides i k)) (sym (add-one i)) (
         record {
-          within = below;
           long = length-set sides i k ∙ a.long;
           found = λ faces l p q wide own.
               let known = a.found faces l p q wide own in
-              let new = (told faces l p q wide own).listed e in
-              (listed_more faces l known.0 new.0, sided-more known.1 (omega (arith, a.long)) new.1);
+              let new = subst (FacetsTold faces (get_or l i [])) e (told faces l p q wide own) in
+              record {
+                listed = listed_more faces l known.listed new.0;
+                sided = sided-more known.sided (omega (arith, a.long)) new.1;
+              };
         }
         )
 
     -- the next simplex lacks a facet
-    pub finding-lacks : r ≡ Lacking → (faces l : List Simplex) → Proper (width - 1) faces → Keyed faces face_keys m → Proper width l
-        → Keyed l keys n → SidesTold faces l sides n i
+    pub finding-lacks : r ≡ None → (faces l : List Simplex) → Proper (width - 1) faces → Keyed faces face_keys m → Proper width l
+        → Keyed l keys n → SidesTold faces l sides n (Err i)
     finding-lacks e faces l p k wide own =
-        let known = a.found faces l p k wide own in
-        record { within = a.within; listed = known.0; sided = known.1; lacking = λ lt. (told faces l p k wide own).lacking e }
+        (below, a.found faces l p k wide own, subst (FacetsTold faces (get_or l i [])) e (told faces l p k wide own))
 
-  pub finding-end : n ≤ i → (faces l : List Simplex) → Proper (width - 1) faces → Keyed faces face_keys m → Proper width l
-      → Keyed l keys n → SidesTold faces l sides n i
-  finding-end end faces l p k wide own =
-      let known = a.found faces l p k wide own in
-      record { within = a.within; listed = known.0; sided = known.1; lacking = λ lt. absurd (omega arith) }
+  pub finding-end : i ≡ n → (faces l : List Simplex) → Proper (width - 1) faces → Keyed faces face_keys m → Proper width l
+      → Keyed l keys n → SidesUpTo faces l sides n
+  finding-end end faces l p k wide own = subst (SidesUpTo faces l sides) end (a.found faces l p k wide own)
 
 -- no simplex of a closed list lacks a facet, so that all sides are found
-pub sides-closed : {faces l : List Simplex} {sides : List ℕ} {n r : ℕ} → SidesTold faces l sides n r → n ≡ length l → Closed faces l
-    → Sided faces l sides n
-sides-closed {faces} {l} {sides} {n} {r} told all closed = elim (ℕ_discrete r n) [
-  | yes end ↦ subst (Sided faces l sides) end told.sided
-  | no other ↦
-      true-not-false _ (closed r (omega (arith, told.within))) (told.lacking (omega (arith, told.within)))
-]
+pub sides-closed : {faces l : List Simplex} {sides : List ℕ} {n : ℕ} (r : Result (Unit {0}) ℕ) → SidesTold faces l sides n r
+    → n ≡ length l → Closed faces l → Sided faces l sides n
+sides-closed (Ok done) found all closed = found.sided
+sides-closed (Err i) found all closed = true-not-false _ (closed i (omega (arith, found.0))) found.2

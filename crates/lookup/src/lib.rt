@@ -2,7 +2,7 @@
 // (crate `keys`), so that neither a list is gone through nor copied.
 #![tactic(auto)]
 
-ghost use Rattle.std.specs.Prelude.{◌≡◌, List, ◌-◌, ◌≤◌, ◌<◌, length, get_or};
+ghost use Rattle.std.specs.Prelude.{◌≡◌, ℕ, List, ◌-◌, ◌≤◌, ◌<◌, length, get_or, IfSome, IfErr};
 ghost use Rattle.format.specs.Simplex.{rank};
 ghost use Rattle.format.specs.Simplex as format;
 ghost use Rattle.lists.specs.Meaning.{vertices_of, simplices_of, rank_of};
@@ -13,25 +13,21 @@ ghost use Rattle.lookup.specs.Indexed.{NumberOf, Keyed, Proper, Blank, Entered, 
 ghost use Rattle.lookup.specs.Numbered.{simplices_in};
 ghost use Rattle.lookup.specs.Sides.{FacetsTold, SidesTold};
 
-use lists::{Found, Simplex, SimplexList};
+use lists::{Simplex, SimplexList};
 
 // The number of the simplex of these vertices, which are the digits; past the last they are 0.
-pub fn number(a: u64, b: u64, c: u64, d: u64) -> u64
-    requires { (a < 65536) × (b < 65536) × (c < 65536) × (d < 65536) }
-    ensures { (s : format.Simplex) → length s ≤ 4 → a ≡ get_or s 0 0 → b ≡ get_or s 1 0 → c ≡ get_or s 2 0 → d ≡ get_or s 3 0 → NumberOf s result }
+pub fn number(vertices: [u16; 4]) -> u64
+    ensures { (s : format.Simplex) → length s ≤ 4 → ((i : ℕ) → i < 4 → get_or vertices i 0 ≡ get_or s i 0) → NumberOf s result }
 {
-    a + 65536 * (b + 65536 * (c + 65536 * d))
+    let [a, b, c, d] = vertices;
+    a as u64 + 65536 * (b as u64 + 65536 * (c as u64 + 65536 * d as u64))
 }
 
 // A simplex's own number.
 pub fn number_of(s: Simplex) -> u64
     ensures { NumberOf (vertices_of s) result }
 {
-    let a = s.vertex(0) as u64;
-    let b = s.vertex(1) as u64;
-    let c = s.vertex(2) as u64;
-    let d = s.vertex(3) as u64;
-    number(a, b, c, d)
+    number([s.vertex(0), s.vertex(1), s.vertex(2), s.vertex(3)])
 }
 
 // The simplex of `width` vertices that has a number.
@@ -56,37 +52,29 @@ pub fn facet_number(number: u64, skip: usize) -> u64
 {
     let a = number % 65536;
     let behind_a = number / 65536;
-    if skip == 0 {
-        return behind_a;
-    }
     let b = behind_a % 65536;
     let behind_b = behind_a / 65536;
-    if skip == 1 {
-        return a + 65536 * behind_b;
-    }
     let c = behind_b % 65536;
     let behind_c = behind_b / 65536;
-    if skip == 2 {
-        return a + 65536 * (b + 65536 * behind_c);
+    match skip {
+        0 => behind_a,
+        1 => a + 65536 * behind_b,
+        2 => a + 65536 * (b + 65536 * behind_c),
+        _ => a + 65536 * (b + 65536 * c),
     }
-    a + 65536 * (b + 65536 * c)
 }
 
 // The rank of the simplex that has a number, in the list whose numbers the first n keys are.
-pub fn rank_of(keys: &[u64], first: &[u16], next: &[u16], n: usize, number: u64) -> Found
+pub fn rank_of(keys: &[u64], first: &[u16], next: &[u16], n: usize, number: u64) -> Option<usize>
     requires { Chained keys.now first.now next.now n }
-    ensures { (s : format.Simplex) → NumberOf s number → (l : List format.Simplex) → Proper (length s) l → Keyed l keys.now n → rank_of result ≡ rank s l }
+    ensures below { IfSome result (λ r. r < n) }
+    ensures rank { (s : format.Simplex) → NumberOf s number → (l : List format.Simplex) → Proper (length s) l → Keyed l keys.now n → rank_of result ≡ rank s l }
 {
-    let place = keys::find(keys, first, next, n, number);
-    if place == 0 {
-        Found::Missing
-    } else {
-        Found::At(place - 1)
-    }
+    keys::find(keys, first, next, n, number)
 }
 
 // The rank of a simplex in the list whose numbers the first n keys are.
-pub fn find(keys: &[u64], first: &[u16], next: &[u16], n: usize, s: Simplex) -> Found
+pub fn find(keys: &[u64], first: &[u16], next: &[u16], n: usize, s: Simplex) -> Option<usize>
     requires { Chained keys.now first.now next.now n }
     ensures { (l : List format.Simplex) → Proper (length (vertices_of s)) l → Keyed l keys.now n → rank_of result ≡ rank (vertices_of s) l }
 {
@@ -109,10 +97,8 @@ pub fn index(list: SimplexList, keys: &mut [u64], first: &mut [u16], next: &mut 
     ensures { Indexed (simplices_of list) keys.new first.new next.new result × (result ≤ 512) }
 {
     let n = lists::least(list.count, SimplexList::LIMIT);
-    let mut i = 0;
-    while i < n {
+    for i in 0..n {
         enter(keys, first, next, i, list.items[i]);
-        i += 1;
     }
     n
 }
@@ -126,23 +112,16 @@ pub fn list_of(keys: &[u64], n: usize, width: usize) -> SimplexList
     ensures { simplices_of result ≡ simplices_in width keys.now n }
 {
     let mut list = SimplexList::empty();
-    while list.count < n {
-        let at = list.count;
-        list.items[at] = simplex_of(keys[at], width);
-        list.count = at + 1;
+    for (rank, number) in keys[..n].iter().enumerate() {
+        list.items[rank] = simplex_of(*number, width);
     }
+    list.count = n;
     list
 }
 
-// What looking up the facets of a simplex comes to: their ranks, in one number, or that one of them is not listed.
-#[derive(Clone, Copy)]
-pub enum Facets {
-    Ranked(u64),
-    Lacking,
-}
-
 // The ranks of the facets of the simplex of `width` vertices that has a number, in the list whose numbers the first n keys
-// are. They are the digits of one number, in dictionary order: the facet without the last vertex is the lowest.
+// are, if all of them are listed. They are the digits of one number, in dictionary order: the facet without the last vertex
+// is the lowest.
 pub fn facet_ranks(
     keys: &[u64],
     first: &[u16],
@@ -150,26 +129,21 @@ pub fn facet_ranks(
     n: usize,
     number: u64,
     width: usize,
-) -> Facets
+) -> Option<u64>
     requires chained { Chained keys.now first.now next.now n }
     requires width_bound { (width ≤ 4) × (n ≤ 65536) }
     ensures { (s : format.Simplex) → NumberOf s number → length s ≡ width → (faces : List format.Simplex) → Proper (width - 1) faces → Keyed faces keys.now n → FacetsTold faces s result }
 {
     let mut ranks: u64 = 0;
-    let mut skip = 0;
-    while skip < width {
-        let place = keys::find(keys, first, next, n, facet_number(number, skip));
-        if place == 0 {
-            return Facets::Lacking;
-        }
-        ranks = ranks * 65536 + (place - 1) as u64;
-        skip += 1;
+    for skip in 0..width {
+        let rank = rank_of(keys, first, next, n, facet_number(number, skip))?;
+        ranks = ranks * 65536 + rank as u64;
     }
-    Facets::Ranked(ranks)
+    Some(ranks)
 }
 
-// The sides of the n simplices of `width` vertices whose numbers the keys are, over the m faces entered, from the first on up
-// to one that lacks a facet. How many have their sides now: the rank of that one, or n where none lacks any.
+// The sides of the n simplices of `width` vertices whose numbers the keys are, over the m faces entered, one after the other.
+// Where one lacks a facet, its rank is the error, and those before it have their sides.
 pub fn find_sides(
     face_keys: &[u64],
     face_first: &[u16],
@@ -179,19 +153,15 @@ pub fn find_sides(
     n: usize,
     width: usize,
     sides: &mut [u64],
-) -> usize
+) -> Result<(), usize>
     requires chained { Chained face_keys.now face_first.now face_next.now m }
     requires width_bound { (width ≤ 4) × (m ≤ 65536) × (n ≤ length keys.now) × (n ≤ length sides.old) }
-    ensures { (faces l : List format.Simplex) → Proper (width - 1) faces → Keyed faces face_keys.now m → Proper width l → Keyed l keys.now n → SidesTold faces l sides.new n result }
+    ensures below { IfErr result (λ r. r < n) }
+    ensures sides { (faces l : List format.Simplex) → Proper (width - 1) faces → Keyed faces face_keys.now m → Proper width l → Keyed l keys.now n → SidesTold faces l sides.new n result }
 {
-    let mut rank = 0;
-    while rank < n {
+    for rank in 0..n {
         let found = facet_ranks(face_keys, face_first, face_next, m, keys[rank], width);
-        let Facets::Ranked(ranks) = found else {
-            return rank;
-        };
-        sides[rank] = ranks;
-        rank += 1;
+        sides[rank] = found.ok_or(rank)?;
     }
-    rank
+    Ok(())
 }

@@ -1,19 +1,26 @@
 -- The judgement of an item from its tests, the first of which that holds decides.
 use Prim.Native.Nat.{ℕ}
-use mathlib.Core.Path.{◌≡◌, sym, ap, ◌∙◌, subst}
+use mathlib.Core.Path.{◌≡◌, refl, sym, ap, ◌∙◌, subst}
 use mathlib.Core.Bool.{Bool, true, false}
 use mathlib.Core.List.{List}
 use lib.ListN.{length}
 use Rattle.format.specs.Numbers.{vertex, twice}
-use Rattle.format.specs.Simplex.{Simplex, Rank, rank, listed}
+use Rattle.format.specs.Simplex.{Simplex, rank, listed}
 use Rattle.format.specs.Listed.{is_ranked, listed-ranked}
+use Rattle.lists.specs.Meaning.{rank_of}
+use Rattle.std.proofs.Common.{Option, Some, None}
+use Rattle.std.specs.Option.{is_some}
 use Rattle.lookup.specs.Indexed.{Proper, Keyed, NumberOf}
 use Rattle.reading_lists.specs.Items.{unsound_edge, refusal_of}
 
 -- a simplex that has a rank is listed
-pub entered-told : (s : Simplex) (l : List Simplex) {r : Rank} (x : Rank) → r ≡ rank s l → r ≡ x → is_ranked x ≡ listed s l
+pub entered-told : (s : Simplex) (l : List Simplex) (r : Option ℕ) → rank_of r ≡ rank s l → is_some r ≡ listed s l
 unfolding is_ranked
-entered-told s l x e q = ap is_ranked (sym q ∙ e) ∙ sym (listed-ranked 0 s l)
+entered-told s l r e = ranked-some r ∙ ap is_ranked e ∙ sym (listed-ranked 0 s l)
+  where
+    ranked-some : (r : Option ℕ) → is_some r ≡ is_ranked (rank_of r)
+    ranked-some None = refl
+    ranked-some (Some i) = refl
 
 -- what the look-up of a number says of the simplex that has it
 among : {keys : List ℕ} {n : ℕ} {s : Simplex} {width number : ℕ} {repeated : Bool} → length s ≡ width → NumberOf s number

@@ -10,7 +10,6 @@ ghost use Rattle.lookup.specs.Indexed.{NumberOf, Keyed, Proper, Blank};
 ghost use Rattle.refusals.specs.Meaning.{number_of};
 ghost use Rattle.reading_lists.specs.Items.{refusal_of, judgement_of, Shaped, ItemsTaken, unsound_edge, lack_of};
 
-use lists::Found;
 use refusals::{Reason, Refusal};
 
 // What taking the items of a list comes to: how many are entered. Where one is refused, those before it are, and rule 8 is still
@@ -22,12 +21,12 @@ pub struct ItemsRead {
 }
 
 // The vertex at a place of the simplex that `width` bytes from `at` on spell, 0 past the last.
-fn vertex_at(p: &[u8], at: usize, width: usize, place: usize) -> u64
+fn vertex_at(p: &[u8], at: usize, width: usize, place: usize) -> u16
     requires { at + width ≤ length p.now }
-    ensures { (result ≡ get_or (take width (drop at p.now)) place 0) × (result < 65536) }
+    ensures { result ≡ get_or (take width (drop at p.now)) place 0 }
 {
     if place < width {
-        p[at + place] as u64
+        p[at + place] as u16
     } else {
         0
     }
@@ -42,7 +41,7 @@ fn number_at(p: &[u8], at: usize, width: usize) -> u64
     let b = vertex_at(p, at, width, 1);
     let c = vertex_at(p, at, width, 2);
     let d = vertex_at(p, at, width, 3);
-    lookup::number(a, b, c, d)
+    lookup::number([a, b, c, d])
 }
 
 // Whether the vertices rise strictly and are all below v.
@@ -69,11 +68,7 @@ fn entered(keys: &[u64], first: &[u16], next: &[u16], n: usize, number: u64) -> 
     requires { Chained keys.now first.now next.now n }
     ensures { (s : format.Simplex) → NumberOf s number → (l : List format.Simplex) → Proper (length s) l → Keyed l keys.now n → result ≡ listed s l }
 {
-    let found = lookup::rank_of(keys, first, next, n, number);
-    match found {
-        Found::At(_) => true,
-        Found::Missing => false,
-    }
+    lookup::rank_of(keys, first, next, n, number).is_some()
 }
 
 // Whether an edge breaks rule 6. The other simplices are sound where their facets are listed, so they are asked only where one

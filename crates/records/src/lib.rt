@@ -7,7 +7,7 @@ ghost use Rattle.format.specs.Reading.{u16_at, u32_at, header_at, payload_at};
 ghost use Rattle.records.specs.Meaning.{header_of, Reads};
 
 // What stands at a place of the file.
-#[derive(Clone, Copy)]
+#[derive(Clone, Copy, Debug, PartialEq, Eq)]
 pub enum Header {
     // the end of the file
     Ended,
@@ -31,48 +31,40 @@ impl Header {
 pub fn byte_at(s: &[u8], at: usize) -> usize
     ensures { Reads (get_or s.now at 0) 256 result }
 {
-    if at < s.len() { s[at] as usize } else { 0 }
+    s.get(at).copied().unwrap_or(0) as usize
 }
 
 // Two bytes, little-endian.
 pub fn u16_at(s: &[u8], at: usize) -> usize
     ensures { Reads (u16_at s.now at) 65536 result }
 {
-    if at < s.len() {
-        byte_at(s, at) + 256 * byte_at(s, at + 1)
-    } else {
-        0
-    }
+    byte_at(s, at) + 256 * byte_at(s, at.saturating_add(1))
 }
 
 // Four bytes, little-endian.
 pub fn u32_at(s: &[u8], at: usize) -> usize
     ensures { Reads (u32_at s.now at) 4294967296 result }
 {
-    if at < s.len() {
-        u16_at(s, at) + 65536 * u16_at(s, at + 2)
-    } else {
-        0
-    }
+    u16_at(s, at) + 65536 * u16_at(s, at.saturating_add(2))
 }
 
 // What stands at a place: the end, a broken record or a whole one.
+#[tactic(auto, unfolding(format::specs::Reading::header_at))]
 pub fn header_at(job: &[u8], at: usize) -> Header
     ensures { header_of result ≡ header_at job.now at }
 {
-    let end = job.len();
-    if end <= at {
+    if job.len() <= at {
         return Header::Ended;
     }
-    let start = at + Header::BYTES;
-    if end < start {
+    let rest = &job[at..];
+    if rest.len() < Header::BYTES {
         return Header::Broken;
     }
-    let size = u32_at(job, at);
-    if end < start + size {
+    let size = u32_at(rest, 0);
+    if rest.len() < Header::BYTES + size {
         return Header::Broken;
     }
-    let kind = u16_at(job, at + 4);
+    let kind = u16_at(rest, 4);
     Header::Whole(kind as u16, size)
 }
 
@@ -80,16 +72,7 @@ pub fn header_at(job: &[u8], at: usize) -> Header
 pub fn payload<'a>(job: &'a [u8], at: usize, size: usize) -> &'a [u8]
     ensures { result.now ≡ payload_at job.now at size }
 {
-    let end = job.len();
-    if end <= at {
-        return &job[end..];
-    }
-    let start = at + Header::BYTES;
-    if end < start {
-        return &job[end..];
-    }
-    if end - start < size {
-        return &job[start..];
-    }
-    &job[start..start + size]
+    let start = job.len().min(at.saturating_add(Header::BYTES));
+    let rest = &job[start..];
+    &rest[..size.min(rest.len())]
 }

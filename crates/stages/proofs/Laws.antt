@@ -20,7 +20,7 @@ use Rattle.refusals.specs.Meaning.{number_of}
 use Rattle.refusals.specs.Readings.{reading_of, reading-then, not_read, same_read}
 use Rattle.refusals.specs.declared.Refusal.{Refusal}
 use Rattle.lookup.specs.Numbered.{simplices_in}
-use Rattle.lookup.specs.Sides.{Sided, SidesTold}
+use Rattle.lookup.specs.Sides.{SidesUpTo, SidesTold}
 use Rattle.reading_lists.specs.Items.{lack_of, Shaped, ItemsTaken}
 use Rattle.reading_lists.specs.declared.ItemsRead.{ItemsRead}
 use Rattle.reading_lists.proofs.Facing.{Paid, edge-owes-none, others-owe, faces-listed, first-lacks}
@@ -142,37 +142,32 @@ module _ {b : List ℕ} {at kind v : ℕ} {keys first next : List ℕ} {taken : 
   pub edges-read : kind ≤ 2 → reading_of (λ _. record { list = list; next = taken.next }) taken.verdict ≡ read_list small b at kind v faces
   edges-read edges = kept (λ i lt. edge-owes-none kind _ faces edges)
 
-  module _ (wide : 2 < kind) {sides : List ℕ} {found : ℕ} (looked : SidesTold faces list sides taken.count found) where
-    paid : (i : ℕ) → i < found → Paid kind v faces (get_or list i [])
-    paid i lt = others-owe kind _ faces true wide (looked.listed i lt)
+  module _ (wide : 2 < kind) {sides : List ℕ} where
+    paid : {found : ℕ} → SidesUpTo faces list sides found → (i : ℕ) → i < found → Paid kind v faces (get_or list i [])
+    paid looked i lt = others-owe kind _ faces true wide (looked.listed i lt)
 
     -- all are found: the list is read where no item was refused, and else that item is
-    pub all_found : taken.count ≤ found → taken.verdict ≡ Ok tt → FacesFound b at kind v faces keys sides taken (Ok (record { count = taken.count; next = taken.next }))
-    all_found end fine = record {
-      reads = sym (ap (reading_of (λ _. record { list = list; next = taken.next })) fine) ∙ kept (λ i lt. paid i (omega arith));
-      found = λ l is. subst (SidedList faces kind keys sides taken) (same_read is) (record {
-        fine = fine;
-        count = refl;
-        next = refl;
-        sided =
-            let all : found ≡ taken.count = omega (arith, looked.within) in
-            subst (Sided faces list sides) all looked.sided;
-      });
+    pub all_found : SidesUpTo faces list sides taken.count → taken.verdict ≡ Ok tt → FacesFound b at kind v faces keys sides taken (Ok (record { count = taken.count; next = taken.next }))
+    all_found looked fine = record {
+      reads = sym (ap (reading_of (λ _. record { list = list; next = taken.next })) fine) ∙ kept (paid looked);
+      found = λ l is. subst (SidedList faces kind keys sides taken) (same_read is) (record { fine = fine; count = refl; next = refl; sided = looked.sided });
     }
 
-    pub taken_refused : {e : Refusal} → taken.count ≤ found → taken.verdict ≡ Err e → FacesFound b at kind v faces keys sides taken (Err e)
-    taken_refused end is = record {
-      reads = sym (ap (reading_of (λ _. record { list = list; next = taken.next })) is) ∙ kept (λ i lt. paid i (omega arith));
+    pub taken_refused : {e : Refusal} → SidesUpTo faces list sides taken.count → taken.verdict ≡ Err e → FacesFound b at kind v faces keys sides taken (Err e)
+    taken_refused looked is = record {
+      reads = sym (ap (reading_of (λ _. record { list = list; next = taken.next })) is) ∙ kept (paid looked);
       found = λ l z. absurd (not_read z);
     }
 
-    pub lacking-refused : (e : Refusal) → found < taken.count → number_of e.reason ≡ lack_of v (take kind (drop (at + header_bytes + kind * found) b))
+    pub lacking-refused : {found : ℕ} (e : Refusal) → SidesTold faces list sides taken.count (Err found)
+        → number_of e.reason ≡ lack_of v (take kind (drop (at + header_bytes + kind * found) b))
         → e.place ≡ at + header_bytes + kind * found → FacesFound b at kind v faces keys sides taken (Err e)
-    lacking-refused e lt lack here = record {
+    lacking-refused {found} e (lt, looked, lacking) lack here = record {
       reads =
           ap₂ refused (lack ∙ ap (lack_of v) (sym (told.own found lt))) here
           ∙ sym (told.reads faces sound
-          ∙ ap behind (first-lacks kind v faces (at + header_bytes) list (reading_of (λ _. list) taken.verdict) found (omega (arith, told.indexed.keyed.count)) paid
-          (others-owe kind _ faces false wide (looked.lacking lt))));
+          ∙ ap behind (first-lacks kind v faces (at + header_bytes) list (reading_of (λ _. list) taken.verdict) found (omega (arith, told.indexed.keyed.count))
+          (paid looked)
+          (others-owe kind _ faces false wide lacking)));
       found = λ l z. absurd (not_read z);
     }

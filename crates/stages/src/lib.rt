@@ -137,8 +137,8 @@ pub fn find_faces(
     let found = lookup::find_sides(
         face_keys, face_first, face_next, m, keys, count, width, sides,
     );
-    if found < count {
-        let place = at + Header::BYTES + width * found;
+    if let Err(rank) = found {
+        let place = at + Header::BYTES + width * rank;
         let reason = reading_lists::lack_at(job, place, width, v);
         return Err(reason.at(place));
     }

@@ -4,7 +4,8 @@ use Rattle.refusals.specs.Readings.{refused_by}
 use Rattle.format.specs.Simplex.{rank}
 use Rattle.lists.specs.Meaning.{rank_of}
 use Rattle.lookup.specs.Numbered.{simplices_in}
-use Rattle.lists.specs.declared.Found.{Found}
+use Rattle.std.proofs.Common.{Option}
+use Prim.Native.Nat.{ℕ}
 use Rattle.chosen.specs.Meaning.{step_at}
 use Rattle.chosen.proofs.Steps.{walking-starts, walking-astray, walking-goes-on, walk_refused, walk-read, rank-few, looked-up}
 use Rattle.chosen.proofs.read_walk.Goals.{After-find-found}
@@ -17,7 +18,7 @@ pub find-found-requires : goal.find-found-requires
 find-found-requires c = c.requires.indexed.chained
 
 -- what the look-up said of the step
-module _ (c : After-find-found) (f : Found) (told : c.find-found.result ≡ f) where
+module _ (c : After-find-found) (f : Option ℕ) (told : c.find-found.result ≡ f) where
   found-rank : rank (step_at c.args.p.now c.loop-i.i) (simplices_in 2 c.args.keys.now c.args.edges) ≡ rank_of f
   found-rank = looked-up c.args.p.now c.loop-i.i f c.step_at.ensures c.find-found.ensures c.requires.proper c.requires.indexed told
 
@@ -28,12 +29,12 @@ returns-in_default c =
 
 pub bounds-marks-rank : goal.bounds-marks-rank
 bounds-marks-rank c =
-    rank-few _ c.requires.base_bound.1 c.requires.indexed (found-rank (goal.at.bounds-marks-rank c).After-find-found _ c.in-At.is)
+    rank-few _ c.requires.base_bound.1 c.requires.indexed (found-rank (goal.at.bounds-marks-rank c).After-find-found _ c.in-Some.is)
 
 pub loop-i-preserved : goal.loop-i-preserved
 loop-i-preserved c =
-    let found = found-rank (goal.at.loop-i-preserved c).After-find-found _ c.in-At.is in
-    walking-goes-on c.loop-i.invariant c.loop-i-test.true c.in-At.rank found
+    let found = found-rank (goal.at.loop-i-preserved c).After-find-found _ c.in-Some.is in
+    walking-goes-on c.loop-i.invariant c.loop-i-test.true c.in-Some.rank found
     (rank-few _ c.requires.base_bound.1 c.requires.indexed found)
 
 pub returns : goal.returns

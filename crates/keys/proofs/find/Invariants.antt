@@ -3,8 +3,8 @@
 use Rattle.keys.proofs.Hunt.{Hunt}
 use Rattle.keys.proofs.find.Given as goal
 
-abbrev pub invariant-loop-i : goal.invariant-loop-i
-invariant-loop-i l = Hunt l.keys l.first l.next l.n l.key l.i
+abbrev pub invariant-loop-place : goal.invariant-loop-place
+invariant-loop-place l = Hunt l.keys l.first l.next l.n l.key l.link
 
-abbrev pub decreases-loop-i : goal.decreases-loop-i
-decreases-loop-i l = l.i
+abbrev pub decreases-loop-place : goal.decreases-loop-place
+decreases-loop-place l = l.link

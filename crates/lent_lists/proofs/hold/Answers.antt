@@ -36,7 +36,7 @@ shape_of-s_keys c = c.index-tetrahedra.auto.keys
 
 pub returns : goal.returns
 returns c =
-    holding c.args.complex.now (record {
+    holding c.args.complex.now c.find_sides.result c.find_sides-2.result (record {
       edges = omega (arith, c.requires.edges, c.index-edges.auto.keys);
       triangles = omega (arith, c.requires.triangles, c.index-triangles.auto.keys);
       tetrahedra = omega (arith, c.requires.tetrahedra, c.index-tetrahedra.auto.keys);
@@ -44,4 +44,4 @@ returns c =
       tetrahedron_sides = omega (arith, c.requires.tetrahedron_sides, c.find_sides-2.auto.sides);
     })
     c.index-edges.ensures.0.keyed c.index-triangles.ensures.0.keyed c.index-tetrahedra.ensures.0.keyed
-    c.find_sides.ensures c.find_sides-2.ensures
+    c.find_sides.ensures.sides c.find_sides-2.ensures.sides

@@ -4,15 +4,14 @@ use native.Mathlib.Omega.{arith}
 use Rattle.lookup.specs.NumberedLaws.{skip_first, skip-second, skip-third, skip-fourth}
 use Rattle.lookup.proofs.facet_number.Goals as goal
 
-pub returns-then-skip-eq0 : goal.returns-then-skip-eq0
-returns-then-skip-eq0 c = λ s own few below. skip_first s own below c.if-skip-eq0.true
+pub returns-in-0 : goal.returns-in-0
+returns-in-0 c = λ s own few below. skip_first s own below c.in-0.is
 
-pub returns-then-skip-eq1 : goal.returns-then-skip-eq1
-returns-then-skip-eq1 c = λ s own few below. skip-second s own below c.if-skip-eq1.true
+pub returns-in-1 : goal.returns-in-1
+returns-in-1 c = λ s own few below. skip-second s own below c.in-1.is
 
-pub returns-then-skip-eq2 : goal.returns-then-skip-eq2
-returns-then-skip-eq2 c = λ s own few below. skip-third s own below c.if-skip-eq2.true
+pub returns-in-2 : goal.returns-in-2
+returns-in-2 c = λ s own few below. skip-third s own below c.in-2.is
 
-pub returns : goal.returns
-returns c = λ s own few below.
-    skip-fourth s own below few (omega (arith, c.if-skip-eq2.false, c.if-skip-eq1.false, c.if-skip-eq0.false))
+pub returns-in_default : goal.returns-in_default
+returns-in_default c = λ s own few below. skip-fourth s own below few (omega (arith, c.in_default))

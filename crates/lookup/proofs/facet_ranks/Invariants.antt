@@ -1,11 +1,7 @@
 -- `facet_ranks` meets its contract: the facets are looked up one by one, and each rank found is the next digit.
 -- Assumes nothing.
-use Prim.Native.Nat.{◌-◌}
 use Rattle.lookup.specs.SidesLaws.{Siding}
 use Rattle.lookup.proofs.facet_ranks.Given as goal
 
 abbrev pub invariant-loop-skip : goal.invariant-loop-skip
 invariant-loop-skip l = Siding l.keys l.n l.number l.width l.skip l.ranks
-
-abbrev pub decreases-loop-skip : goal.decreases-loop-skip
-decreases-loop-skip l = l.width - l.skip

@@ -1,11 +1,7 @@
 -- `find_sides` meets its contract: the simplices' facets are looked up in rank order.
 -- Assumes nothing.
-use Prim.Native.Nat.{◌-◌}
 use Rattle.lookup.specs.SidesLaws.{SidesFound}
 use Rattle.lookup.proofs.find_sides.Given as goal
 
 abbrev pub invariant-loop-rank : goal.invariant-loop-rank
 invariant-loop-rank l = SidesFound l.face_keys l.m l.keys l.n l.width l.initial.sides l.sides l.rank
-
-abbrev pub decreases-loop-rank : goal.decreases-loop-rank
-decreases-loop-rank l = l.n - l.rank

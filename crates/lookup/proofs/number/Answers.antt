@@ -4,6 +4,4 @@ use Rattle.lookup.specs.IndexLaws.{number-told}
 use Rattle.lookup.proofs.number.Goals as goal
 
 pub returns : goal.returns
-returns c =
-    let low = c.requires in
-    λ s few p q r t. number-told s _ _ _ _ few p q r t low.0 low.1 low.2 low.3
+returns c = λ s few places. number-told s c.args.vertices few places c.element_fits.fits c.element_fits2.fits c.element_fits3.fits c.element_fits4.fits

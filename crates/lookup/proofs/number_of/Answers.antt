@@ -5,13 +5,13 @@ use mathlib.Core.Path.{◌≡◌}
 use native.Mathlib.Omega.{arith}
 use lib.ListN.{length, length-take}
 use Rattle.lists.specs.Meaning.{vertices_of}
+use Rattle.lookup.specs.IndexLaws.{four_places}
 use Rattle.std.proofs.Common.{rules}
 use Rattle.lookup.proofs.number_of.Goals as goal
 
 pub returns : goal.returns
 returns c =
-    let a = c.args in
-    let four : length a.s.vertices ≡ 4 = search rules in
-    c.number.ensures (vertices_of a.s) (omega (arith, four, length-take (suc a.s.dim) a.s.vertices))
-    c.vertex-a.ensures c.vertex-b.ensures c.vertex-c.ensures
-    c.vertex-d.ensures
+    let s = c.args.s in
+    let four : length s.vertices ≡ 4 = search rules in
+    c.number.ensures (vertices_of s) (omega (arith, four, length-take (suc s.dim) s.vertices))
+    (four_places (vertices_of s) c.vertex.ensures c.vertex-2.ensures c.vertex-3.ensures c.vertex-4.ensures)
