@@ -3,7 +3,7 @@ use Prim.Native.Nat.{ℕ, ◌+◌, ◌≤◌, ◌<◌}
 use native.Mathlib.Omega.{arith}
 use mathlib.Core.Path.{◌≡◌, sym, ◌∙◌}
 use mathlib.Core.List.{List}
-use lib.ListN.{length, take, drop, get_or, length-take, length-drop, get_or-eq_default}
+use lib.ListN.{length, take, drop, get_or, length-take, length-drop}
 use lib.Seq.{get_or-take, get_or-drop}
 
 module _ (p : List ℕ) (at w i : ℕ) where

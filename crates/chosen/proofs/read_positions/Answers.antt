@@ -1,5 +1,5 @@
 -- `chosen::read_positions` meets its contract: the loop keeps `Marking`, and each return is one of its ends.
-use Prim.Native.Nat.{ℕ, ◌+◌, ◌*◌}
+use Prim.Native.Nat.{ℕ, ◌+◌}
 use mathlib.Core.Path.{sym, ap, subst, ◌∙◌}
 use mathlib.Core.Bool.{true}
 use native.Mathlib.Omega.{arith}
