@@ -42,10 +42,8 @@ fn number_vertices(keys: &mut [u64], v: usize)
     requires { (v ≤ length keys.old) × (v ≤ 65536) }
     ensures { simplices_in 1 keys.new v ≡ vertex_list v }
 {
-    let mut i = 0;
-    while i < v {
+    for i in 0..v {
         keys[i] = i as u64;
-        i += 1;
     }
 }
 

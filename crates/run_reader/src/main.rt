@@ -54,10 +54,11 @@ fn take_frame() -> bool {
     false
 }
 
-// A proved loop has to end, and nothing says that the input does. So it counts its turns down, from more than any run takes.
+// A proved loop has to end, and nothing says that the input does. So it has more turns than any run takes.
 fn main() {
-    let mut turns = u64::MAX;
-    while turns > 0 && take_frame() {
-        turns -= 1;
+    for _ in 0..u64::MAX {
+        if !take_frame() {
+            return;
+        }
     }
 }

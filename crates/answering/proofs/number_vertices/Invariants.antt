@@ -1,11 +1,7 @@
 -- `answering::number_vertices` meets its contract: one number a turn.
 -- Assumes nothing.
-use Prim.Native.Nat.{◌-◌, ◌≤◌}
 use Rattle.answering.proofs.Numbering.{Numbering}
 use Rattle.answering.proofs.number_vertices.Given as goal
 
 abbrev pub invariant-loop-i : goal.invariant-loop-i
-invariant-loop-i l = Numbering l.initial.keys l.keys l.i × (l.i ≤ l.v)
-
-abbrev pub decreases-loop-i : goal.decreases-loop-i
-decreases-loop-i l = l.v - l.i
+invariant-loop-i l = Numbering l.initial.keys l.keys l.i
