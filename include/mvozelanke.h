@@ -10,8 +10,8 @@
  * length is 0.  Neither call keeps a pointer, allocates memory or changes a byte of
  * the job.  Nothing is kept from one call to the next, so several threads may call
  * at once, each with its own out and work.  A thread that calls wants 128 KB of
- * stack free (measured on x86-64: mvz_answer takes 90,776 bytes, mvz_write
- * 127,064; docs/PERFORMANCE.md).
+ * stack free (measured on x86-64: mvz_answer takes 95,864 bytes, mvz_write
+ * 97,352; docs/PERFORMANCE.md).
  *
  * The library, libmvozelanke.a, is for x86-64 Linux; of the C library it uses
  * memcpy and memset alone.  examples/panel.c shows the calls.
