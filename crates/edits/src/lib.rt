@@ -103,7 +103,7 @@ fn view_of(kind: usize, edges: View, triangles: View, tetrahedra: View) -> View
 fn judge(at: usize, edit: Edit, view: View) -> Result<(), Refusal>
     ensures { Judged at edit view result }
 {
-    let count = lists::least(view.count, SimplexList::LIMIT);
+    let count = view.count.min(SimplexList::LIMIT);
     if count <= edit.seen {
         return Err(Reason::Stale.at(at));
     }
@@ -151,7 +151,7 @@ pub fn read_edits(
         let seen = edit.seen;
         let new = edit.new;
         // a seen position past the limit is past every count: what stands here does not matter then
-        let rank = lists::least(seen, SimplexList::LIMIT - 1);
+        let rank = seen.min(SimplexList::LIMIT - 1);
         let view = view_of(
             kind,
             View {

@@ -125,13 +125,6 @@ impl Marks {
     }
 }
 
-// The smaller of two numbers.
-pub fn least(a: usize, b: usize) -> usize
-    ensures { result ≡ min a b }
-{
-    a.min(b)
-}
-
 // Takes the item at `seen` out and puts it at `new`; those between shift by one place.
 fn move_item<T>(items: &mut [T], seen: usize, new: usize)
     requires { (seen < length items.old) × (new < length items.old) }

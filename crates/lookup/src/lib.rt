@@ -96,7 +96,7 @@ pub fn index(list: SimplexList, keys: &mut [u64], first: &mut [u16], next: &mut 
     requires list_in_bounds { length (simplices_of list) ≤ length keys.old }
     ensures { Indexed (simplices_of list) keys.new first.new next.new result × (result ≤ 512) }
 {
-    let n = lists::least(list.count, SimplexList::LIMIT);
+    let n = list.count.min(SimplexList::LIMIT);
     for i in 0..n {
         enter(keys, first, next, i, list.items[i]);
     }

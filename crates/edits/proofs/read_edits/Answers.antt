@@ -45,7 +45,7 @@ turn c =
     let full = c.loop-at.invariant.full in
     let one = c.read_edit.ensures in
     let fine = c.in_ok-read.was in
-    let rank = c.least-rank.ensures in
+    let rank = c.min-rank.ensures in
     record {
       one = subst (EditTaken c.args.job.now c.loop-at.left c.loop-at.at) fine one;
       view = c.view_of-view.result;

@@ -8,7 +8,7 @@ use Rattle.lookup.proofs.index.Goals as goal
 
 pub loop-i-init : goal.loop-i-init
 loop-i-init c =
-    indexing-start (simplices_of c.args.list) _ (counted _ _ (search (rules, length-mapped)) c.least-n.ensures) c.requires.blank.none
+    indexing-start (simplices_of c.args.list) _ (counted _ _ (search (rules, length-mapped)) c.min-n.ensures) c.requires.blank.none
 
 pub loop-i-preserved : goal.loop-i-preserved
 loop-i-preserved c =
