@@ -1,7 +1,7 @@
 // Simplices, the lists of a complex, and chains as marks by rank.
 #![tactic(auto)]
 
-ghost use Rattle.std.specs.Prelude.{◌≡◌, ◌+◌, ◌≤◌, ◌<◌, min, false, [], length, take, drop, get_or, replicate};
+ghost use Rattle.std.specs.Prelude.{◌≡◌, ◌+◌, ◌≤◌, ◌<◌, false, [], length, take, drop, get_or, replicate};
 ghost use Rattle.format.specs.Simplex as format;
 ghost use Rattle.lists.specs.Same.{same_of, same_always};
 ghost use Rattle.lists.specs.Meaning.{vertices_of, simplices_of};
