@@ -3,16 +3,16 @@
 #![tactic(auto)]
 
 ghost use Rattle.std.specs.Prelude.{◌≡◌, ◌≤◌, length};
-ghost use Rattle.format.specs.Simplex.{vertex_list, lower, simplices};
+ghost use Rattle.format.specs.Simplex.{Complex, vertex_list, lower, simplices};
 ghost use Rattle.format.specs.Reading.{fill, class, chain_dimension, question_of};
 ghost use Rattle.format.specs.Answer.{refusal_record};
 ghost use Rattle.refusals.specs.Meaning.{number_of};
 ghost use Rattle.lookup.specs.Numbered.{simplices_in};
 ghost use Rattle.writer.specs.Meaning.{Put};
-ghost use Rattle.lent_lists.specs.Held.{complex_in, Held};
+ghost use Rattle.lent_lists.specs.Held.{complex_in, Counted, Held};
 ghost use Rattle.jobs.specs.Meaning.{FileRoom, Asking, job_in};
 ghost use Rattle.solver.specs.Solved.{RimTold};
-ghost use Rattle.answering.specs.Meaning.{Answers, AnswersFile, of_dimension};
+ghost use Rattle.answering.specs.Meaning.{Answers, AnswersFile, MatrixOf, of_dimension};
 
 use jobs::NumbersRead;
 use lists::SimplexList;
@@ -47,6 +47,29 @@ fn number_vertices(keys: &mut [u64], v: usize)
     }
 }
 
+// The matrix of a dimension: its simplices are the rows, and those of the next dimension the columns.
+fn matrix_of<'a>(
+    read: NumbersRead,
+    dim: usize,
+    e_keys: &'a [u64],
+    t_sides: &'a [u64],
+    s_sides: &'a [u64],
+) -> Matrix<'a>
+    requires { dim ≤ 2 }
+    ensures { (X : Complex) → Counted X read.head.v read.counts → MatrixOf X dim e_keys.now t_sides.now s_sides.now result }
+{
+    let counts = read.counts;
+    let rows = counts.of(read.head.v, dim);
+    let columns = counts.of(read.head.v, dim + 1);
+    let sides = numbers_of(dim + 1, e_keys, t_sides, s_sides);
+    Matrix {
+        rows,
+        sides,
+        columns,
+        width: dim + 2,
+    }
+}
+
 // Puts a refusal's record at the front of the output.
 fn refuse(out: &mut [u8], reason: Reason, place: usize) -> usize
     requires { 12 ≤ length out.old }
@@ -72,21 +95,10 @@ fn rim_closed<'a>(
     if dim == 0 {
         return true;
     }
-    let head = read.head;
-    let counts = read.counts;
-    let marks = read.marks;
     let low = dim - 1;
-    let m = counts.of(head.v, low);
-    let n = counts.of(head.v, low + 1);
-    let sides = numbers_of(low + 1, e_keys, t_sides, s_sides);
+    let matrix = matrix_of(read, low, e_keys, t_sides, s_sides);
     let mut cur = [0u8; 128];
-    let matrix = Matrix {
-        rows: m,
-        sides,
-        columns: n,
-        width: low + 2,
-    };
-    solver::rim_closed(&mut cur, matrix, marks, 64)
+    solver::rim_closed(&mut cur, matrix, read.marks, 64)
 }
 
 // Fills A, of dimension `dim`: the patch, or refusal 12 or 13. What has a filling has a closed rim, so the rim is looked at only
@@ -109,24 +121,15 @@ fn answer_fill<'a>(
     requires in_bounds_2 { 65536 ≤ length work.old }
     ensures { (k : Asking read e_keys.now t_keys.now s_keys.now t_sides.now s_sides.now) → Answers (job_in read e_keys.now t_keys.now s_keys.now k.set) out.old out.new result }
 {
-    let head = read.head;
-    let counts = read.counts;
-    let marks = read.marks;
-    let m = counts.of(head.v, dim);
-    let n = counts.of(head.v, dim + 1);
-    let sides = numbers_of(dim + 1, e_keys, t_sides, s_sides);
+    let d = read.head.d;
+    let matrix = matrix_of(read, dim, e_keys, t_sides, s_sides);
     let mut cur = [0u8; 128];
-    let matrix = Matrix {
-        rows: m,
-        sides,
-        columns: n,
-        width: dim + 2,
-    };
-    let filled = solver::fill(work, &mut cur, matrix, marks, 64);
+    let n = matrix.columns;
+    let filled = solver::fill(work, &mut cur, matrix, read.marks, 64);
     if filled {
         let cols = numbers_of(dim + 1, e_keys, t_keys, s_keys);
         let half = 64;
-        answers::put_chain(out, head.d, cols, n, dim + 2, &cur[half..])
+        answers::put_chain(out, d, cols, n, dim + 2, &cur[half..])
     } else {
         let closed = rim_closed(read, dim, e_keys, t_keys, s_keys, t_sides, s_sides);
         if !closed {
@@ -155,29 +158,20 @@ fn answer_class<'a>(
     requires in_bounds_2 { 65536 ≤ length work.old }
     ensures { (k : Asking read e_keys.now t_keys.now s_keys.now t_sides.now s_sides.now) → Answers (job_in read e_keys.now t_keys.now s_keys.now k.set) out.old out.new result }
 {
-    let head = read.head;
-    let counts = read.counts;
-    let marks = read.marks;
-    let m = counts.of(head.v, dim);
-    let n = counts.of(head.v, dim + 1);
-    let sides = numbers_of(dim + 1, e_keys, t_sides, s_sides);
+    let d = read.head.d;
+    let matrix = matrix_of(read, dim, e_keys, t_sides, s_sides);
+    let m = matrix.rows;
     let mut cur = [0u8; 128];
-    let matrix = Matrix {
-        rows: m,
-        sides,
-        columns: n,
-        width: dim + 2,
-    };
-    solver::class(work, &mut cur, matrix, marks, 64);
+    solver::class(work, &mut cur, matrix, read.marks, 64);
     let start = 0;
     let half = 64;
     if dim == 0 {
         let mut vertices = [0u64; SimplexList::LIMIT];
         number_vertices(&mut vertices, m);
-        return answers::put_chain(out, head.d, &vertices, m, 1, &cur[start..half]);
+        return answers::put_chain(out, d, &vertices, m, 1, &cur[start..half]);
     }
     let rows = numbers_of(dim, e_keys, t_keys, s_keys);
-    answers::put_chain(out, head.d, rows, m, dim + 1, &cur[start..half])
+    answers::put_chain(out, d, rows, m, dim + 1, &cur[start..half])
 }
 
 // Answers a job: its question is a filling, or else a class.

@@ -12,9 +12,10 @@ use Rattle.lookup.specs.Numbered.{simplices_in}
 use Rattle.lent_lists.specs.Held.{complex_in}
 use Rattle.lent_lists.specs.HeldLaws.{held-counted, few-simplices}
 use Rattle.solver.specs.Room.{room_small}
+use Rattle.answering.specs.Meaning.{MatrixOf}
 use Rattle.answering.proofs.Lists.{numbers-list, numbers_fit, matrix-in, members-room, vertices-are}
 use Rattle.answering.proofs.Told.{answers-class, dimension-few}
-use Rattle.answering.proofs.answer_class.Goals.{After-number_vertices, After-numbers_of-rows, After-numbers_of-sides, Start}
+use Rattle.answering.proofs.answer_class.Goals.{After-number_vertices, After-numbers_of-rows, After-matrix_of-matrix, Start}
 use Rattle.answering.proofs.answer_class.Goals as goal
 
 -- the complex that the arrays hold
@@ -26,74 +27,62 @@ lists start =
 small-dim : (start : Start) → start.args.dim ≤ 2
 small-dim start = subst (λ n. n ≤ 2) (sym start.requires.dim_value) (dimension-few (question_of start.args.read.head.question) start.args.read.head.d start.requires.asking.head.dimension)
 
--- what is known once the sides are chosen
-module _ (c : After-numbers_of-sides) where
+-- what is known of the matrix
+module _ (c : After-matrix_of-matrix) where
   abbrev held : Complex
   held = complex_in c.args.read.head.v c.args.read.counts c.args.e_keys.now c.args.t_keys.now c.args.s_keys.now
 
-  m-is : c.of-m.result ≡ length (simplices held c.args.dim)
-  m-is = c.of-m.ensures held (held-counted c.requires.asking.held)
+  is : MatrixOf held c.args.dim c.args.e_keys.now c.args.t_sides.now c.args.s_sides.now c.matrix_of-matrix.result
+  is = c.matrix_of-matrix.ensures held (held-counted c.requires.asking.held)
 
-  n-is : c.of-n.result ≡ length (simplices held (c.args.dim + 1))
-  n-is = c.of-n.ensures held (held-counted c.requires.asking.held)
-
-  few : c.of-m.result ≤ 512
-  few = subst (λ n. n ≤ 512) (sym m-is) (few-simplices held c.requires.asking.held.sound _)
+  few : c.matrix_of-matrix.result.rows ≤ 512
+  few = subst (λ n. n ≤ 512) (sym is.rows) (few-simplices held c.requires.asking.held.sound _)
 
 -- the vertices are listed by number
 vertices-listed : (c : After-number_vertices) →
-    simplices_in 1 c.number_vertices.new.keys c.of-m.result ≡ simplices (complex_in c.args.read.head.v c.args.read.counts c.args.e_keys.now c.args.t_keys.now c.args.s_keys.now) c.args.dim
+    simplices_in 1 c.number_vertices.new.keys c.matrix_of-matrix.result.rows ≡ simplices (complex_in c.args.read.head.v c.args.read.counts c.args.e_keys.now c.args.t_keys.now c.args.s_keys.now) c.args.dim
 vertices-listed c =
-    c.number_vertices.ensures ∙ vertices-are (complex_in c.args.read.head.v c.args.read.counts c.args.e_keys.now c.args.t_keys.now c.args.s_keys.now) _ _ c.if-dim-eq0.true (c.of-m.ensures (complex_in c.args.read.head.v c.args.read.counts c.args.e_keys.now c.args.t_keys.now c.args.s_keys.now) (held-counted c.requires.asking.held))
+    c.number_vertices.ensures ∙ vertices-are (complex_in c.args.read.head.v c.args.read.counts c.args.e_keys.now c.args.t_keys.now c.args.s_keys.now) _ _ c.if-dim-eq0.true (c.matrix_of-matrix.ensures (complex_in c.args.read.head.v c.args.read.counts c.args.e_keys.now c.args.t_keys.now c.args.s_keys.now) (held-counted c.requires.asking.held)).rows
 
 -- simplices of other dimensions by their numbers
 rows-listed : (c : After-numbers_of-rows) → c.args.dim ≤ 2 →
-    simplices_in (c.args.dim + 1) c.numbers_of-rows.result.now c.of-m.result
+    simplices_in (c.args.dim + 1) c.numbers_of-rows.result.now c.matrix_of-matrix.result.rows
     ≡ simplices (complex_in c.args.read.head.v c.args.read.counts c.args.e_keys.now c.args.t_keys.now c.args.s_keys.now) c.args.dim
 rows-listed c low =
     let some = c.if-dim-eq0.false in
-    numbers-list c.requires.asking.held c.args.dim _ _ c.numbers_of-rows.ensures (omega arith) (omega arith) (omega arith) (c.of-m.ensures (complex_in c.args.read.head.v c.args.read.counts c.args.e_keys.now c.args.t_keys.now c.args.s_keys.now) (held-counted c.requires.asking.held))
+    numbers-list c.requires.asking.held c.args.dim _ _ c.numbers_of-rows.ensures (omega arith) (omega arith) (omega arith) (c.matrix_of-matrix.ensures (complex_in c.args.read.head.v c.args.read.counts c.args.e_keys.now c.args.t_keys.now c.args.s_keys.now) (held-counted c.requires.asking.held)).rows
 
 pub overflow_add-dim : goal.overflow_add-dim
 overflow_add-dim c = omega (arith, small-dim (goal.at.overflow_add-dim c).Start)
 
-pub overflow_add-dim-2 : goal.overflow_add-dim-2
-overflow_add-dim-2 c = omega (arith, small-dim (goal.at.overflow_add-dim-2 c).Start)
-
-pub overflow_add-matrix : goal.overflow_add-matrix
-overflow_add-matrix c = omega (arith, small-dim (goal.at.overflow_add-matrix c).Start)
-
 pub class-requires : goal.class-requires
 class-requires c =
-    record { matrix_in = matrix-in c.requires.asking.held c.args.dim _ c.numbers_of-sides.ensures (small-dim (goal.at.class-requires c).Start) (m-is (goal.at.class-requires c).After-numbers_of-sides) (n-is (goal.at.class-requires c).After-numbers_of-sides) refl; rows_bound = few (goal.at.class-requires c).After-numbers_of-sides; h_in_bounds = omega (arith, room_small, c.requires.in_bounds_2); cur_len = refl; le_h = omega arith }
+    record { matrix_in = matrix-in c.requires.asking.held c.args.dim _ (is (goal.at.class-requires c).After-matrix_of-matrix).sides (small-dim (goal.at.class-requires c).Start) (is (goal.at.class-requires c).After-matrix_of-matrix).rows (is (goal.at.class-requires c).After-matrix_of-matrix).columns (is (goal.at.class-requires c).After-matrix_of-matrix).width; rows_bound = few (goal.at.class-requires c).After-matrix_of-matrix; h_in_bounds = omega (arith, room_small, c.requires.in_bounds_2); cur_len = refl; le_h = omega arith }
 
 pub number_vertices-requires : goal.number_vertices-requires
 number_vertices-requires c =
-    (omega (arith, few (goal.at.number_vertices-requires c).After-numbers_of-sides, length-replicate {A = ℕ} 512 0), omega (arith, few (goal.at.number_vertices-requires c).After-numbers_of-sides))
+    (omega (arith, few (goal.at.number_vertices-requires c).After-matrix_of-matrix, length-replicate {A = ℕ} 512 0), omega (arith, few (goal.at.number_vertices-requires c).After-matrix_of-matrix))
 
 pub put_chain-requires : goal.put_chain-requires
 put_chain-requires c =
-    record { le_size = (omega arith, omega arith); n_in_bounds = omega (arith, few (goal.at.put_chain-requires c).After-numbers_of-sides, length-replicate {A = ℕ} 512 0, c.number_vertices.auto.keys); n_in_bounds_2 = le_trans (members-room (lists (goal.at.put_chain-requires c).Start) c.requires.asking.held.sound c.args.dim _ (vertices-listed (goal.at.put_chain-requires c).After-number_vertices) _) c.requires.in_bounds; n_bound = simp (length-take, length-drop) (omega (arith, few (goal.at.put_chain-requires c).After-numbers_of-sides, c.class.auto.cur)) }
+    record { le_size = (omega arith, omega arith); n_in_bounds = omega (arith, few (goal.at.put_chain-requires c).After-matrix_of-matrix, length-replicate {A = ℕ} 512 0, c.number_vertices.auto.keys); n_in_bounds_2 = le_trans (members-room (lists (goal.at.put_chain-requires c).Start) c.requires.asking.held.sound c.args.dim _ (vertices-listed (goal.at.put_chain-requires c).After-number_vertices) _) c.requires.in_bounds; n_bound = simp (length-take, length-drop) (omega (arith, few (goal.at.put_chain-requires c).After-matrix_of-matrix, c.class.auto.cur)) }
 
 pub returns-then-dim-eq0 : goal.returns-then-dim-eq0
 unfolding half_r matrix-in
 returns-then-dim-eq0 c = λ k.
     answers-class k c.requires.dim_value _ c.requires.question_value (vertices-listed (goal.at.returns-then-dim-eq0 c).After-number_vertices)
     (c.class.ensures
-    (matrix-in c.requires.asking.held c.args.dim _ c.numbers_of-sides.ensures (small-dim (goal.at.returns-then-dim-eq0 c).Start) (m-is (goal.at.returns-then-dim-eq0 c).After-numbers_of-sides) (n-is (goal.at.returns-then-dim-eq0 c).After-numbers_of-sides) refl))
+    (matrix-in c.requires.asking.held c.args.dim _ (is (goal.at.returns-then-dim-eq0 c).After-matrix_of-matrix).sides (small-dim (goal.at.returns-then-dim-eq0 c).Start) (is (goal.at.returns-then-dim-eq0 c).After-matrix_of-matrix).rows (is (goal.at.returns-then-dim-eq0 c).After-matrix_of-matrix).columns (is (goal.at.returns-then-dim-eq0 c).After-matrix_of-matrix).width))
     c.put_chain.ensures
-
-pub overflow_add-dim-3 : goal.overflow_add-dim-3
-overflow_add-dim-3 c = omega (arith, small-dim (goal.at.overflow_add-dim-3 c).Start)
 
 pub put_chain-requires-2 : goal.put_chain-requires-2
 put_chain-requires-2 c =
-    record { le_size = (omega arith, omega (arith, small-dim (goal.at.put_chain-requires-2 c).Start)); n_in_bounds = numbers_fit c.requires.asking.held _ _ c.numbers_of-rows.ensures (omega (arith, c.if-dim-eq0.false)) (omega (arith, small-dim (goal.at.put_chain-requires-2 c).Start)) (m-is (goal.at.put_chain-requires-2 c).After-numbers_of-sides); n_in_bounds_2 = le_trans (members-room (lists (goal.at.put_chain-requires-2 c).Start) c.requires.asking.held.sound c.args.dim _ (rows-listed (goal.at.put_chain-requires-2 c).After-numbers_of-rows (small-dim (goal.at.put_chain-requires-2 c).Start)) _) c.requires.in_bounds; n_bound = simp (length-take, length-drop) (omega (arith, few (goal.at.put_chain-requires-2 c).After-numbers_of-sides, c.class.auto.cur)) }
+    record { le_size = (omega arith, omega (arith, small-dim (goal.at.put_chain-requires-2 c).Start)); n_in_bounds = numbers_fit c.requires.asking.held _ _ c.numbers_of-rows.ensures (omega (arith, c.if-dim-eq0.false)) (omega (arith, small-dim (goal.at.put_chain-requires-2 c).Start)) (is (goal.at.put_chain-requires-2 c).After-matrix_of-matrix).rows; n_in_bounds_2 = le_trans (members-room (lists (goal.at.put_chain-requires-2 c).Start) c.requires.asking.held.sound c.args.dim _ (rows-listed (goal.at.put_chain-requires-2 c).After-numbers_of-rows (small-dim (goal.at.put_chain-requires-2 c).Start)) _) c.requires.in_bounds; n_bound = simp (length-take, length-drop) (omega (arith, few (goal.at.put_chain-requires-2 c).After-matrix_of-matrix, c.class.auto.cur)) }
 
 pub returns : goal.returns
 unfolding half_r matrix-in
 returns c = λ k.
     answers-class k c.requires.dim_value _ c.requires.question_value (rows-listed (goal.at.returns c).After-numbers_of-rows (small-dim (goal.at.returns c).Start))
     (c.class.ensures
-    (matrix-in c.requires.asking.held c.args.dim _ c.numbers_of-sides.ensures (small-dim (goal.at.returns c).Start) (m-is (goal.at.returns c).After-numbers_of-sides) (n-is (goal.at.returns c).After-numbers_of-sides) refl))
+    (matrix-in c.requires.asking.held c.args.dim _ (is (goal.at.returns c).After-matrix_of-matrix).sides (small-dim (goal.at.returns c).Start) (is (goal.at.returns c).After-matrix_of-matrix).rows (is (goal.at.returns c).After-matrix_of-matrix).columns (is (goal.at.returns c).After-matrix_of-matrix).width))
     c.put_chain-2.ensures

@@ -14,9 +14,10 @@ use Rattle.lent_lists.specs.Held.{complex_in}
 use Rattle.lent_lists.specs.HeldLaws.{held-counted, few-simplices}
 use Rattle.solver.specs.Room.{room_small}
 use Rattle.solver.specs.Solved.{fill-says}
+use Rattle.answering.specs.Meaning.{MatrixOf}
 use Rattle.answering.proofs.Lists.{numbers-list, numbers_fit, matrix-in, members-room}
 use Rattle.answering.proofs.Told.{answers-open, answers-unfilled, answers-patch, dimension-few}
-use Rattle.answering.proofs.answer_fill.Goals.{After-numbers_of-cols, After-numbers_of-sides, Start}
+use Rattle.answering.proofs.answer_fill.Goals.{After-numbers_of-cols, After-matrix_of-matrix, Start}
 use Rattle.answering.proofs.answer_fill.Goals as goal
 
 -- the complex that the arrays hold
@@ -28,53 +29,41 @@ lists start =
 small-dim : (start : Start) → start.args.dim ≤ 2
 small-dim start = subst (λ n. n ≤ 2) (sym start.requires.dim_value) (dimension-few (question_of start.args.read.head.question) start.args.read.head.d start.requires.asking.head.dimension)
 
--- what is known once the sides are chosen
-module _ (c : After-numbers_of-sides) where
+-- what is known of the matrix
+module _ (c : After-matrix_of-matrix) where
   abbrev held : Complex
   held = complex_in c.args.read.head.v c.args.read.counts c.args.e_keys.now c.args.t_keys.now c.args.s_keys.now
 
-  m-is : c.of-m.result ≡ length (simplices held c.args.dim)
-  m-is = c.of-m.ensures held (held-counted c.requires.asking.held)
+  is : MatrixOf held c.args.dim c.args.e_keys.now c.args.t_sides.now c.args.s_sides.now c.matrix_of-matrix.result
+  is = c.matrix_of-matrix.ensures held (held-counted c.requires.asking.held)
 
-  n-is : c.of-n.result ≡ length (simplices held (c.args.dim + 1))
-  n-is = c.of-n.ensures held (held-counted c.requires.asking.held)
+  few : c.matrix_of-matrix.result.rows ≤ 512
+  few = subst (λ n. n ≤ 512) (sym is.rows) (few-simplices held c.requires.asking.held.sound _)
 
-  few : c.of-m.result ≤ 512
-  few = subst (λ n. n ≤ 512) (sym m-is) (few-simplices held c.requires.asking.held.sound _)
-
-  few_columns : c.of-n.result ≤ 512
-  few_columns = subst (λ n. n ≤ 512) (sym n-is) (few-simplices held c.requires.asking.held.sound _)
+  few_columns : c.matrix_of-matrix.result.columns ≤ 512
+  few_columns = subst (λ n. n ≤ 512) (sym is.columns) (few-simplices held c.requires.asking.held.sound _)
 
 -- the patch is made of the columns
 module _ (c : After-numbers_of-cols) (low : c.args.dim ≤ 2) where
-  patch-list : simplices_in (c.args.dim + 2) c.numbers_of-cols.result.now c.of-n.result
+  patch-list : simplices_in (c.args.dim + 2) c.numbers_of-cols.result.now c.matrix_of-matrix.result.columns
       ≡ simplices (complex_in c.args.read.head.v c.args.read.counts c.args.e_keys.now c.args.t_keys.now c.args.s_keys.now) (c.args.dim + 1)
   patch-list =
       numbers-list c.requires.asking.held (c.args.dim + 1) _ _ c.numbers_of-cols.ensures (omega arith) (omega arith) (omega arith)
-      (c.of-n.ensures (complex_in c.args.read.head.v c.args.read.counts c.args.e_keys.now c.args.t_keys.now c.args.s_keys.now) (held-counted c.requires.asking.held))
+      (c.matrix_of-matrix.ensures (complex_in c.args.read.head.v c.args.read.counts c.args.e_keys.now c.args.t_keys.now c.args.s_keys.now) (held-counted c.requires.asking.held)).columns
 
 pub overflow_add-dim : goal.overflow_add-dim
 overflow_add-dim c = omega (arith, small-dim (goal.at.overflow_add-dim c).Start)
 
-pub overflow_add-dim-2 : goal.overflow_add-dim-2
-overflow_add-dim-2 c = omega (arith, small-dim (goal.at.overflow_add-dim-2 c).Start)
-
-pub overflow_add-matrix : goal.overflow_add-matrix
-overflow_add-matrix c = omega (arith, small-dim (goal.at.overflow_add-matrix c).Start)
-
 pub fill-filled-requires : goal.fill-filled-requires
 fill-filled-requires c =
-    record { matrix_in = matrix-in c.requires.asking.held c.args.dim _ c.numbers_of-sides.ensures (small-dim (goal.at.fill-filled-requires c).Start) (m-is (goal.at.fill-filled-requires c).After-numbers_of-sides) (n-is (goal.at.fill-filled-requires c).After-numbers_of-sides) refl; rows_bound = few (goal.at.fill-filled-requires c).After-numbers_of-sides; h_in_bounds = omega (arith, room_small, c.requires.in_bounds_2); cur_len = refl; le_h = omega arith }
+    record { matrix_in = matrix-in c.requires.asking.held c.args.dim _ (is (goal.at.fill-filled-requires c).After-matrix_of-matrix).sides (small-dim (goal.at.fill-filled-requires c).Start) (is (goal.at.fill-filled-requires c).After-matrix_of-matrix).rows (is (goal.at.fill-filled-requires c).After-matrix_of-matrix).columns (is (goal.at.fill-filled-requires c).After-matrix_of-matrix).width; rows_bound = few (goal.at.fill-filled-requires c).After-matrix_of-matrix; h_in_bounds = omega (arith, room_small, c.requires.in_bounds_2); cur_len = refl; le_h = omega arith }
 
 pub overflow_add-dim-then-filled : goal.overflow_add-dim-then-filled
 overflow_add-dim-then-filled c = omega (arith, small-dim (goal.at.overflow_add-dim-then-filled c).Start)
 
-pub overflow_add-dim-then-filled-2 : goal.overflow_add-dim-then-filled-2
-overflow_add-dim-then-filled-2 c = omega (arith, small-dim (goal.at.overflow_add-dim-then-filled-2 c).Start)
-
 pub put_chain-requires : goal.put_chain-requires
 put_chain-requires c =
-    record { le_size = (omega arith, omega (arith, small-dim (goal.at.put_chain-requires c).Start)); n_in_bounds = numbers_fit c.requires.asking.held _ _ c.numbers_of-cols.ensures (omega arith) (omega (arith, small-dim (goal.at.put_chain-requires c).Start)) (n-is (goal.at.put_chain-requires c).After-numbers_of-sides); n_in_bounds_2 = le_trans (members-room (lists (goal.at.put_chain-requires c).Start) c.requires.asking.held.sound (c.args.dim + 1) _ (patch-list (goal.at.put_chain-requires c).After-numbers_of-cols (small-dim (goal.at.put_chain-requires c).Start)) _) c.requires.in_bounds; n_bound = simp (length-take, length-drop) (omega (arith, few_columns (goal.at.put_chain-requires c).After-numbers_of-sides, c.fill-filled.auto.cur)) }
+    record { le_size = (omega arith, omega (arith, small-dim (goal.at.put_chain-requires c).Start)); n_in_bounds = numbers_fit c.requires.asking.held _ _ c.numbers_of-cols.ensures (omega arith) (omega (arith, small-dim (goal.at.put_chain-requires c).Start)) (is (goal.at.put_chain-requires c).After-matrix_of-matrix).columns; n_in_bounds_2 = le_trans (members-room (lists (goal.at.put_chain-requires c).Start) c.requires.asking.held.sound (c.args.dim + 1) _ (patch-list (goal.at.put_chain-requires c).After-numbers_of-cols (small-dim (goal.at.put_chain-requires c).Start)) _) c.requires.in_bounds; n_bound = simp (length-take, length-drop) (omega (arith, few_columns (goal.at.put_chain-requires c).After-matrix_of-matrix, c.fill-filled.auto.cur)) }
 
 pub rim_closed-closed-requires : goal.rim_closed-closed-requires
 rim_closed-closed-requires c = record { asking = c.requires.asking; dim_bound = small-dim (goal.at.rim_closed-closed-requires c).Start }
@@ -95,7 +84,7 @@ returns-then-filled c = λ k.
     answers-patch k c.requires.dim_value c.requires.question_value _
     (patch-list (goal.at.returns-then-filled c).After-numbers_of-cols (small-dim (goal.at.returns-then-filled c).Start))
     (fill-says (c.fill-filled.ensures
-    (matrix-in c.requires.asking.held c.args.dim _ c.numbers_of-sides.ensures (small-dim (goal.at.returns-then-filled c).Start) (m-is (goal.at.returns-then-filled c).After-numbers_of-sides) (n-is (goal.at.returns-then-filled c).After-numbers_of-sides) refl))
+    (matrix-in c.requires.asking.held c.args.dim _ (is (goal.at.returns-then-filled c).After-matrix_of-matrix).sides (small-dim (goal.at.returns-then-filled c).Start) (is (goal.at.returns-then-filled c).After-matrix_of-matrix).rows (is (goal.at.returns-then-filled c).After-matrix_of-matrix).columns (is (goal.at.returns-then-filled c).After-matrix_of-matrix).width))
     c.if-filled.true)
     c.put_chain.ensures
 
@@ -105,6 +94,6 @@ returns-else-not-closed c = λ k.
     answers-unfilled k c.requires.dim_value c.requires.question_value c.rim_closed-closed.ensures empty
     c.if-not-closed.false
     (fill-says (c.fill-filled.ensures
-    (matrix-in c.requires.asking.held c.args.dim _ c.numbers_of-sides.ensures (small-dim (goal.at.returns-else-not-closed c).Start) (m-is (goal.at.returns-else-not-closed c).After-numbers_of-sides) (n-is (goal.at.returns-else-not-closed c).After-numbers_of-sides) refl))
+    (matrix-in c.requires.asking.held c.args.dim _ (is (goal.at.returns-else-not-closed c).After-matrix_of-matrix).sides (small-dim (goal.at.returns-else-not-closed c).Start) (is (goal.at.returns-else-not-closed c).After-matrix_of-matrix).rows (is (goal.at.returns-else-not-closed c).After-matrix_of-matrix).columns (is (goal.at.returns-else-not-closed c).After-matrix_of-matrix).width))
     c.if-filled.false)
     c.refuse-else-filled.ensures
