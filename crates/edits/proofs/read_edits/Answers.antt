@@ -27,16 +27,6 @@ full c =
       all_marks = search rules;
     }
 
-pub loop-at-init : goal.loop-at-init
-loop-at-init c =
-    let a = c.args in
-    taking-starts a.job.now a.at a.dim a.complex a.marks (full (goal.at.loop-at-init c).Start)
-
-pub returns-in_err-read : goal.returns-in_err-read
-returns-in_err-read c =
-    rw (handed_up c.from_residual.result c.from_residual.ensures.1)
-    (record-refuses c.loop-at.invariant c.read_edit.ensures _ c.in_err-read.was)
-
 -- what the turn has come to with the judgement: the view is of the list that the edit names
 turn : (c : After-judge)
     →
@@ -113,24 +103,12 @@ goes_on c later stays all =
     taking-goes-on c.loop-at.invariant (turn (record { before = c.before.before.before.before; type_inv = record { job = c.type_inv.job } })) c.in_ok-judge.was (changed c) (replaced c) later stays
     (record { edges = full.edges; triangles = full.triangles; tetrahedra = full.tetrahedra; all_marks = all }) _ (sub-one _)
 
-pub overflow_sub-left : goal.overflow_sub-left
-overflow_sub-left c = let j = turn (goal.at.overflow_sub-left c).After-judge in j.one.allowed _ refl
-
-pub overflow_sub-kind : goal.overflow_sub-kind
-overflow_sub-kind c = let j = turn (goal.at.overflow_sub-kind c).After-judge in omega (arith, j.one.least _ refl)
-
-pub loop-at-smaller-then-kind-dim : goal.loop-at-smaller-then-kind-dim
-loop-at-smaller-then-kind-dim c = let j = turn (goal.at.loop-at-smaller-then-kind-dim c).After-judge in omega (arith, j.one.allowed _ refl)
-
 pub loop-at-preserved-then-kind-dim : goal.loop-at-preserved-then-kind-dim
 loop-at-preserved-then-kind-dim c =
     let j = turn (goal.at.loop-at-preserved-then-kind-dim c).After-judge in
     goes_on (goal.at.loop-at-preserved-then-kind-dim c).Joined-kind c.moved-marks.result
     (marks-go-along (replaced (goal.at.loop-at-preserved-then-kind-dim c).Joined-kind) (j.one.least _ refl) (j.one.most _ refl) (within (goal.at.loop-at-preserved-then-kind-dim c).In_ok-judge) c.if-kind-dim.true c.loop-at.invariant.full.all_marks c.moved-marks.ensures)
     (search (rules, c.moved-marks.type_inv))
-
-pub loop-at-smaller : goal.loop-at-smaller
-loop-at-smaller c = let j = turn (goal.at.loop-at-smaller c).After-judge in omega (arith, j.one.allowed _ refl)
 
 pub loop-at-preserved : goal.loop-at-preserved
 loop-at-preserved c =
