@@ -67,21 +67,6 @@ after_head-requires c =
       file_room = c.requires;
     }
 
-pub shape_of-e_keys : goal.shape_of-e_keys
-shape_of-e_keys c = c.after_head.auto.e_keys
-
-pub shape_of-t_keys : goal.shape_of-t_keys
-shape_of-t_keys c = c.after_head.auto.t_keys
-
-pub shape_of-s_keys : goal.shape_of-s_keys
-shape_of-s_keys c = c.after_head.auto.s_keys
-
-pub shape_of-t_sides : goal.shape_of-t_sides
-shape_of-t_sides c = c.after_head.auto.t_sides
-
-pub shape_of-s_sides : goal.shape_of-s_sides
-shape_of-s_sides c = c.after_head.auto.s_sides
-
 pub returns : goal.returns
 returns c =
     let ok = (goal.at.returns c).In_ok-size in
