@@ -1,9 +1,7 @@
 -- `hold` meets its contract: each list is entered, so that the sides of the one above are found in it.
 -- Assumes nothing.
 use native.Mathlib.Omega.{arith}
-use Rattle.lookup.specs.IndexLaws.{zeros-blank}
 use Rattle.lent_lists.proofs.Holding.{holding}
-use Rattle.std.proofs.Common.{rules}
 use Rattle.lent_lists.proofs.hold.Goals as goal
 
 pub returns : goal.returns

@@ -2,9 +2,7 @@
 -- what is left of it is put into the arrays again.
 -- Assumes nothing.
 use mathlib.Core.Path.{refl}
-use Rattle.refusals.specs.Readings.{handed_up}
-use Rattle.lent_lists.specs.HeldLaws.{held-roomy}
-use Rattle.lent_lists.proofs.Editing.{editing-none, editing-refused, editing-room, editing-done}
+use Rattle.lent_lists.proofs.Editing.{editing-none, editing-room, editing-done}
 use Rattle.lent_lists.proofs.take_edits.Goals as goal
 
 pub returns-then-job-at : goal.returns-then-job-at
