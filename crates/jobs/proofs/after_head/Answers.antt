@@ -1,7 +1,6 @@
 -- `jobs::after_head` meets its contract: the lists are read, and then what is asked about.
 -- Assumes nothing.
 use Rattle.heads.specs.Meaning.{head_of}
-use Rattle.lookup.specs.IndexLaws.{zeros-blank}
 use Rattle.refusals.specs.Readings.{handed_up}
 use Rattle.jobs.proofs.Laws.{unedited-refused, unedited-same, lists-refused, lists-fine}
 use Rattle.jobs.proofs.after_head.Goals as goal

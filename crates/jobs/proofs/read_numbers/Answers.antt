@@ -1,10 +1,7 @@
 -- `jobs::read_numbers` meets its contract: what is read up to the edits, and then edited, is the job.
 -- Assumes nothing.
 use mathlib.Core.Path.{subst}
-use Rattle.refusals.specs.Readings.{handed_up}
 use Rattle.jobs.specs.Meaning.{Unedited}
-use Rattle.jobs.proofs.Laws.{told-refused}
-use Rattle.jobs.specs.Known.{unedited-refusal}
 use Rattle.jobs.proofs.read_numbers.Goals as goal
 
 pub returns : goal.returns

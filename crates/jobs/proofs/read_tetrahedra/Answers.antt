@@ -5,9 +5,7 @@ use Prim.Native.Nat.{ℕ}
 use native.Mathlib.Omega.{arith}
 use mathlib.Core.Path.{sym, subst}
 use Rattle.lookup.specs.Indexed.{Keyed}
-use Rattle.lookup.specs.IndexLaws.{zeros-blank}
 use Rattle.lookup.specs.Numbered.{simplices_in}
-use Rattle.refusals.specs.Readings.{handed_up, not_read}
 use Rattle.stages.specs.Meaning.{ListTaken, TakenList}
 use Rattle.jobs.proofs.Laws.{nothing-held}
 use Rattle.jobs.proofs.read_tetrahedra.Goals.{In_ok-taken}

@@ -1,7 +1,6 @@
 -- `jobs::take_edits` meets its contract: what the edits leave of a job that was read up to them is the job.
 -- Assumes nothing.
-use Rattle.refusals.specs.Readings.{handed_up}
-use Rattle.jobs.proofs.Laws.{edits-refused, edits-told}
+use Rattle.jobs.proofs.Laws.{edits-told}
 use Rattle.jobs.proofs.take_edits.Goals as goal
 
 pub returns : goal.returns
