@@ -1,50 +1,42 @@
 -- `answering::rim_closed` meets its contract: the boundary of vertices is empty, and that of other chains is looked at.
 -- Assumes nothing.
-use Prim.Native.Nat.{◌+◌, ◌-◌, ◌≤◌, ◌<◌}
-use mathlib.Core.Path.{◌≡◌, refl, sym, subst}
+use Prim.Native.Nat.{◌+◌, ◌-◌}
+use mathlib.Core.Path.{◌≡◌, refl}
 use native.Mathlib.Omega.{arith}
 use lib.ListN.{length}
-use Rattle.format.specs.Simplex.{Complex, simplices}
-use Rattle.lent_lists.specs.Held.{complex_in}
+use Rattle.format.specs.Simplex.{simplices}
 use Rattle.lent_lists.specs.HeldLaws.{held-counted, few-simplices}
-use Rattle.answering.proofs.Lists.{rim-none, rim-below, matrix-in}
-use Rattle.answering.proofs.rim_closed.Goals.{After-numbers_of-sides, Start}
+use Rattle.solver.specs.Columns.{MatrixIn}
+use Rattle.answering.proofs.Lists.{complex_held, rim-none, rim-below, matrix-in}
+use Rattle.answering.proofs.rim_closed.Goals.{After-numbers_of-sides}
 use Rattle.answering.proofs.rim_closed.Goals as goal
-
--- the complex that the arrays hold
-abbrev lists : Start → Complex
-lists start =
-    complex_in start.args.read.head.v start.args.read.counts start.args.e_keys.now start.args.t_keys.now start.args.s_keys.now
 
 -- what is known once the sides are chosen
 module _ (c : After-numbers_of-sides) where
-  abbrev held : Complex
-  held = complex_in c.args.read.head.v c.args.read.counts c.args.e_keys.now c.args.t_keys.now c.args.s_keys.now
+  n-is : c.of-n.result ≡ length (simplices (complex_held c.requires.asking.held) (c.args.dim - 1 + 1))
+  n-is = c.of-n.ensures _ (held-counted c.requires.asking.held)
 
-  below : c.args.dim - 1 ≤ 2
-  below = omega (arith, c.requires.dim_bound)
-
-  some : 0 < c.args.dim
-  some = omega (arith, c.if-dim-eq0.false)
-
-  m-is : c.of-m.result ≡ length (simplices held (c.args.dim - 1))
-  m-is = c.of-m.ensures held (held-counted c.requires.asking.held)
-
-  n-is : c.of-n.result ≡ length (simplices held (c.args.dim - 1 + 1))
-  n-is = c.of-n.ensures held (held-counted c.requires.asking.held)
-
-  few : c.of-n.result ≤ 512
-  few = subst (λ n. n ≤ 512) (sym n-is) (few-simplices held c.requires.asking.held.sound _)
+  abbrev as_matrix : MatrixIn 64 (record { rows = c.of-m.result; sides = c.numbers_of-sides.result; columns = c.of-n.result; width = c.args.dim - 1 + 2 })
+  as_matrix =
+      matrix-in c.requires.asking.held (c.args.dim - 1) _ c.numbers_of-sides.ensures (omega (arith, c.requires.dim_bound))
+      (c.of-m.ensures _ (held-counted c.requires.asking.held)) n-is refl
 
 pub returns-then-dim-eq0 : goal.returns-then-dim-eq0
-returns-then-dim-eq0 c = rim-none (lists (goal.at.returns-then-dim-eq0 c).Start) _ _ c.if-dim-eq0.true
+returns-then-dim-eq0 c = rim-none (complex_held c.requires.asking.held) _ _ c.if-dim-eq0.true
 
-pub rim_closed-requires : goal.rim_closed-requires
-rim_closed-requires c =
-    record { matrix_in = matrix-in c.requires.asking.held (c.args.dim - 1) _ c.numbers_of-sides.ensures (below (goal.at.rim_closed-requires c).After-numbers_of-sides) (m-is (goal.at.rim_closed-requires c).After-numbers_of-sides) (n-is (goal.at.rim_closed-requires c).After-numbers_of-sides) refl; columns_bound = few (goal.at.rim_closed-requires c).After-numbers_of-sides; cur_len = refl }
+pub rim_closed-requires-clause-matrix_in : goal.rim_closed-requires-clause-matrix_in
+rim_closed-requires-clause-matrix_in c = as_matrix (goal.at.rim_closed-requires-clause-matrix_in c).After-numbers_of-sides
+
+pub rim_closed-requires-clause-columns_bound : goal.rim_closed-requires-clause-columns_bound
+rim_closed-requires-clause-columns_bound c =
+    omega (
+      arith,
+      n-is (goal.at.rim_closed-requires-clause-columns_bound c).After-numbers_of-sides,
+      few-simplices (complex_held c.requires.asking.held) c.requires.asking.held.sound (c.args.dim - 1 + 1),
+    )
 
 pub returns : goal.returns
 unfolding matrix-in
 returns c =
-    rim-below (lists (goal.at.returns c).Start) _ (some (goal.at.returns c).After-numbers_of-sides) (c.rim_closed.ensures
-    (matrix-in c.requires.asking.held (c.args.dim - 1) _ c.numbers_of-sides.ensures (below (goal.at.returns c).After-numbers_of-sides) (m-is (goal.at.returns c).After-numbers_of-sides) (n-is (goal.at.returns c).After-numbers_of-sides) refl))
+    rim-below (complex_held c.requires.asking.held) _ (omega (arith, c.if-dim-eq0.false))
+    (c.rim_closed.ensures (as_matrix (goal.at.returns c).After-numbers_of-sides))
