@@ -100,9 +100,6 @@ module _ {j : NumbersRead} {e_keys t_keys s_keys : List ℕ} (w : Writable j e_k
 -- THE FILE, read into lent arrays.
 module _ (b : List ℕ) {e_keys t_keys s_keys t_sides s_sides : List ℕ} {r : Result NumbersRead Refusal}
     (o : Told (reading small b) e_keys t_keys s_keys t_sides s_sides r) where
-  pub write-refused : (out : List ℕ) (e : Refusal) (result : ℕ) → r ≡ Err e → result ≡ two_numbers (number_of e.reason) e.place → WritePromise small b out result out
-  write-refused out e result v is = subst (λ x. Written x out result out) (sym (told-refusal o v)) (is, refl)
-
   unfoldable pub writable : (j : NumbersRead) → r ≡ Ok j → Writable j e_keys t_keys s_keys
   writable j v =
       let a = told_asking b j r o v in

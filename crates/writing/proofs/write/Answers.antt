@@ -6,7 +6,7 @@ use Rattle.format.specs.Numbers.{small}
 use Rattle.format.specs.Promise.{two_numbers}
 use Rattle.format.proofs.Places.{reading-refused}
 use Rattle.jobs.specs.Known.{told-refusal, zeros-room}
-use Rattle.writing.proofs.Laws.{write-refused, writable, write-accepted}
+use Rattle.writing.proofs.Laws.{writable, write-accepted}
 use Rattle.std.proofs.Common.{rules}
 use Rattle.writing.proofs.write.Goals as goal
 

@@ -6,7 +6,7 @@ use lib.ListN.{length}
 use Rattle.format.specs.Promise.{two_numbers, WrittenJob}
 use Rattle.format.specs.Reading as reader
 use Rattle.writing.specs.Meaning.{chosen_from}
-use Rattle.writing.proofs.Laws.{all-chosen, chosen-few, job-too-short, job-written, by_value, same-job}
+use Rattle.writing.proofs.Laws.{all-chosen, job-too-short, job-written, by_value, same-job}
 use Rattle.writing.proofs.write_read.Goals.{After-count-n}
 use Rattle.writing.proofs.write_read.Goals as goal
 
