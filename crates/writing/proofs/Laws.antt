@@ -19,8 +19,7 @@ use Rattle.format.specs.RoundTrip.{length-normal_form, normal-fits, chosen-fits}
 use Rattle.format.specs.Promise.{two_numbers, WrittenJob, too_short, written, Written, WritePromise}
 use Rattle.lists.specs.Meaning.{simplices_of}
 use Rattle.std.specs.Prelude.{Result}
-use Rattle.std.proofs.Common.{Ok, Err}
-use Rattle.refusals.specs.Meaning.{number_of}
+use Rattle.std.proofs.Common.{Ok}
 use Rattle.refusals.specs.declared.Refusal.{Refusal}
 use Rattle.complexes.specs.Meaning.{job_of, list_of, Marked}
 use Rattle.complexes.specs.declared.Job.{Job}
@@ -29,7 +28,7 @@ use Rattle.heads.specs.declared.Head.{Head}
 use Rattle.lists.specs.declared.Marks.{Marks}
 use Rattle.lent_lists.specs.HeldLaws.{held-roomy}
 use Rattle.jobs.specs.Meaning.{SoundHead, Readable, job_in, Told, ByValue}
-use Rattle.jobs.specs.Known.{told-refusal, told-accepted, told_asking}
+use Rattle.jobs.specs.Known.{told-accepted, told_asking}
 use Rattle.jobs.specs.declared.NumbersRead.{NumbersRead}
 use Rattle.writer.specs.Meaning.{Put, job_bytes}
 use Rattle.writer.specs.Splice.{splice}

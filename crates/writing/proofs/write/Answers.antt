@@ -1,11 +1,9 @@
 -- `writing::write` meets its contract: a refusal's number and place are the reading's, and both fit; a job that was read is
 -- written as its normal form.
-use mathlib.Core.Path.{◌∙◌, ap}
 use native.Mathlib.Omega.{arith}
 use Rattle.format.specs.Numbers.{small}
-use Rattle.format.specs.Promise.{two_numbers}
 use Rattle.format.proofs.Places.{reading-refused}
-use Rattle.jobs.specs.Known.{told-refusal, zeros-room}
+use Rattle.jobs.specs.Known.{told-refusal}
 use Rattle.writing.proofs.Laws.{writable, write-accepted}
 use Rattle.std.proofs.Common.{rules}
 use Rattle.writing.proofs.write.Goals as goal
