@@ -82,6 +82,10 @@ pub vertices-are : (X : Complex) (dim m : ℕ) → dim ≡ 0 → m ≡ length (s
 unfolding simplices
 vertices-are X dim m e is = ap vertex_list (is ∙ ap (λ (d : ℕ). length (simplices X d)) e ∙ length-vertices X.v) ∙ ap (simplices X) (sym e)
 
+-- the complex that the arrays hold
+abbrev pub complex_held : {v : ℕ} {c : Counts} {e_keys t_keys s_keys t_sides s_sides : List ℕ} → Held v c e_keys t_keys s_keys t_sides s_sides → Complex
+complex_held {v} {c} {e_keys} {t_keys} {s_keys} held = complex_in v c e_keys t_keys s_keys
+
 -- THE MATRIX of a dimension's list over the one below it, as the arrays hold it.
 module _ {v : ℕ} {c : Counts} {e_keys t_keys s_keys t_sides s_sides : List ℕ} (held : Held v c e_keys t_keys s_keys t_sides s_sides) where
   abbrev X : Complex

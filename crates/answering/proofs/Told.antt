@@ -6,15 +6,15 @@ use mathlib.Core.List.{List}
 use native.Mathlib.Numerals.{add-one}
 use native.Mathlib.Omega.{arith}
 use lib.Dec.{leb}
-use borrow.Author.Tests.{eq-eqb, ne_eqb, leb-true}
+use borrow.Author.Tests.{leb-true}
 use lib.ListN.{length, get_or}
 use Rattle.chains.specs.Chain.{Chain, boundary, SmallestFilling, SmallestInClass, Fills}
-use Rattle.format.specs.Numbers.{small, rim_open, no_filling}
+use Rattle.format.specs.Numbers.{small, no_filling}
 use Rattle.format.specs.Simplex.{Simplex, Complex, simplices, lower, columns}
-use Rattle.format.specs.Reading.{Reading, refused, reading, Job, Question, fill, class, question_of, dimension_fits, chain_dimension}
+use Rattle.format.specs.Reading.{Reading, reading, Job, Question, fill, class, question_of, dimension_fits, chain_dimension}
 use Rattle.format.specs.Listed.{and-true}
 use Rattle.format.specs.Rims.{filled-closed}
-use Rattle.format.specs.Answer.{row_dimension, rows, cols, matrix, asked_chain, rim, FillAnswer, open_rim, unfilled, patch, AnswerTo, Answered, refusal_record, chain_record}
+use Rattle.format.specs.Answer.{row_dimension, rows, cols, matrix, asked_chain, rim, FillAnswer, unfilled, patch, AnswerTo, Answered, refusal_record, chain_record}
 use Rattle.std.specs.Prelude.{Result}
 use Rattle.std.proofs.Common.{Ok}
 use Rattle.refusals.specs.declared.Refusal.{Refusal}
@@ -81,14 +81,6 @@ module _ {read : NumbersRead} {e_keys t_keys s_keys t_sides s_sides : List ℕ}
           ap₂ (λ (l r : List Simplex). rim_of l r read.marks) same-lower same_rows
           ∙ ap (boundary (columns (lower X (row_dimension j)) (rows j)) (length (rows j))) same_asked
 
-      pub answers-open : {before after : List ℕ} {count : ℕ} → closed ≡ false → Put before 0 (refusal_record rim_open 0) after count
-          → Answers j before after count
-      answers-open e put = record {
-        answer = refusal_record rim_open 0;
-        is = asks-fill _ (open_rim (λ none. told.is_open e (same-rim ∙ none)) refl);
-        put = put;
-      }
-
       pub answers-unfilled : (x : Chain) {before after : List ℕ} {count : ℕ} → closed ≡ true
           → FillSays (simplices X dim) (simplices X (dim + 1)) read.marks false x
           → Put before 0 (refusal_record no_filling 0) after count → Answers j before after count
@@ -117,11 +109,8 @@ module _ {read : NumbersRead} {e_keys t_keys s_keys t_sides s_sides : List ℕ}
         put = subst (λ b. Put before 0 b after count) bytes put;
       }
 
--- A FILE is answered by the refusal of its reading, or as the job that was read is.
+-- A FILE is answered as the job that was read is.
 module _ {b before after : List ℕ} {count : ℕ} where
-  pub file-refused : {n p : ℕ} → reading small b ≡ refused n p → Put before 0 (refusal_record n p) after count → AnswersFile b before after count
-  file-refused {n} {p} e put = record { answer = refusal_record n p; is = subst (λ (x : Reading Job). Answered x (refusal_record n p)) (sym e) refl; put = put }
-
   pub file-answered : {e_keys t_keys s_keys t_sides s_sides : List ℕ} {j : NumbersRead} {r : Result NumbersRead Refusal} → Told (reading small b) e_keys t_keys s_keys t_sides s_sides r → r ≡ Ok j
       → ((k : Asking j e_keys t_keys s_keys t_sides s_sides) → Answers (job_in j e_keys t_keys s_keys k.set) before after count)
       → AnswersFile b before after count
@@ -130,16 +119,10 @@ module _ {b before after : List ℕ} {count : ℕ} where
       let a = answers (told_asking b j r told fine) in
       record { answer = a.answer; is = subst (λ (x : Reading Job). Answered x a.answer) (sym (told-accepted b j r told fine)) a.is; put = a.put }
 
--- THE QUESTION of a head, and the dimension of A.
-pub asks-filling : (q : ℕ) → q ≡ 1 → question_of q ≡ fill
-asks-filling q e = rw (eq-eqb q 1 e)
-
-pub asks-class : (q : ℕ) → (q ≡ 1 → ⊥) → question_of q ≡ class
-asks-class q n = rw (ne_eqb q 1 n)
-
-pub dimension-few : (q : Question) (d : ℕ) → dimension_fits q d ≡ true → chain_dimension q d ≤ 2
-dimension-few fill d e = few d (leb-true d 3 (and-true (leb 1 d) (leb d 3) e).1)
+-- A has dimension 2 at most.
+pub dimension_few : (q : Question) (d : ℕ) → dimension_fits q d ≡ true → chain_dimension q d ≤ 2
+dimension_few fill d e = few d (leb-true d 3 (and-true (leb 1 d) (leb d 3) e).1)
   where
     few : (d : ℕ) → d ≤ 3 → pred d ≤ 2
     few d h = omega arith
-dimension-few class d e = leb-true d 2 e
+dimension_few class d e = leb-true d 2 e

@@ -103,6 +103,7 @@ fn rim_closed<'a>(
 
 // Fills A, of dimension `dim`: the patch, or refusal 12 or 13. What has a filling has a closed rim, so the rim is looked at only
 // where none was found.
+#[tactic(auto, using(crate::proofs::Told::dimension_few))]
 fn answer_fill<'a>(
     out: &mut [u8],
     work: &mut [u8],
@@ -140,6 +141,7 @@ fn answer_fill<'a>(
 }
 
 // The smallest chain in the class of A, of dimension `dim`.
+#[tactic(auto, using(crate::proofs::Told::dimension_few))]
 fn answer_class<'a>(
     out: &mut [u8],
     work: &mut [u8],

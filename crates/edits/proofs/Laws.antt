@@ -1,30 +1,24 @@
--- What each outcome of the code's tests comes to in the definitions: in one list, of which a view is enough, and in the
--- complex that has it.
+-- What a view of a list is, and what moving a list's simplices comes to: in the complex that has it, and for the marks.
 use Prim.Native.Nat.{ℕ, pred, ◌-◌, ◌≤◌, ◌<◌, min}
 use mathlib.Core.Path.{◌≡◌, sym, ◌∙◌, ap, subst}
-use mathlib.Core.Bool.{Bool, true, false}
-use mathlib.Core.List.{List, [], map}
+use mathlib.Core.List.{List, map}
 use native.Mathlib.Omega.{arith}
-use native.Mathlib.Nat.{sub-suc, sub-zero}
+use native.Mathlib.Numerals.{sub-one}
 use lib.ListN.{length, get_or, take}
 use Rattle.format.specs.Simplex.{same, simplices, SimplexSet}
 use Rattle.format.specs.Simplex as format
 use Rattle.format.specs.Reading.{moved, list_of_kind, with_list}
 use Rattle.format.specs.Moves.{map-moved, length_moved}
 use Rattle.format.specs.EditLaws.{MovedWithin}
-use Rattle.format.proofs.EditLaws.{list-past, list-other, list-target, list-moved, replaced-list, kept-list, with-edges, with-triangles, with-tetrahedra}
+use Rattle.format.proofs.EditLaws.{replaced-list, kept-list, with-edges, with-triangles, with-tetrahedra}
 use Rattle.lists.specs.Meaning.{none, vertices_of, simplices_of}
 use Rattle.lists.specs.Items.{length-simplices, simplex-at}
 use Rattle.lists.specs.Moved.{MovedList, MovedMarks}
 use Rattle.lists.specs.declared.SimplexList.{SimplexList}
 use Rattle.lists.specs.declared.Marks.{Marks}
-use Rattle.std.proofs.Common.{Ok, Err}
-use Rattle.refusals.specs.declared.Reason.TheVariants.{Stale, Target}
 use Rattle.complexes.specs.Meaning.{complex_of, list_of, Marked}
 use Rattle.complexes.specs.declared.Complex.{Complex}
-use Rattle.edits.specs.Meaning.{Views, Chosen, Judged, MarksStay}
-use Rattle.edits.specs.declared.Edit.{Edit}
-use Rattle.edits.specs.declared.View.{View}
+use Rattle.edits.specs.Meaning.{Views, MarksStay}
 
 -- A VIEW of a list, at the seen position, or at the last place of the array where the seen one lies behind that.
 pub viewed : (l : SimplexList) (seen rank : ℕ) → length l.items ≡ 512 → rank ≡ min seen 511 → Views (simplices_of l) seen (record { count = l.count; there = get_or l.items rank none })
@@ -35,44 +29,6 @@ viewed l seen rank full e =
           let here : seen ≡ rank = omega (arith, length-simplices l) in
           simplex-at l seen (omega (arith, length-simplices l)) ∙ ap (λ i. vertices_of (get_or l.items i none)) here;
     }
-
-module _ {kind : ℕ} {edges triangles tetrahedra : View} where
-  pub chosen-edges : kind ≡ 2 → Chosen kind edges triangles tetrahedra edges
-  unfolding simplices
-  chosen-edges k = record { views = λ X seen _ _ e t s. subst (λ n. Views (list_of_kind n X) seen edges) (sym k) e }
-
-  pub chosen-triangles : kind ≡ 3 → Chosen kind edges triangles tetrahedra triangles
-  unfolding simplices
-  chosen-triangles k = record { views = λ X seen _ _ e t s. subst (λ n. Views (list_of_kind n X) seen triangles) (sym k) t }
-
-  pub chosen-tetrahedra : (kind ≡ 2 → ⊥) → (kind ≡ 3 → ⊥) → Chosen kind edges triangles tetrahedra tetrahedra
-  unfolding simplices
-  chosen-tetrahedra n m =
-      record {
-        views = λ X seen least most e t s.
-            let k : kind ≡ 4 = omega arith in
-            subst (λ n. Views (list_of_kind n X) seen tetrahedra) (sym k) s;
-      }
-
--- THE JUDGEMENT of an edit. `count` is the list's length, and `test` says whether the simplex stands at the seen position.
-module _ (edit : Edit) (view : View) {count : ℕ} (counted : count ≡ min view.count 512) where
-  pub nothing-there : {at : ℕ} → count ≤ edit.seen → Judged at edit view (Err (record { reason = Stale; place = at }))
-  nothing-there {at = at} h = record { reading = λ l v. list-past at edit.seen edit.new (vertices_of edit.simplex) l (omega (arith, v.counts)) }
-
-  module _ (within : edit.seen < count) {test : Bool} (tested : test ≡ same (vertices_of edit.simplex) (vertices_of view.there)) where
-    stood : (l : List format.Simplex) → Views l edit.seen view → (x : Bool) → test ≡ x → same (vertices_of edit.simplex) (get_or l edit.seen []) ≡ x
-    stood l v x e = ap (same (vertices_of edit.simplex)) (v.stands (omega (arith, v.counts))) ∙ sym tested ∙ e
-
-    pub another-there : {at : ℕ} → test ≡ false → Judged at edit view (Err (record { reason = Stale; place = at }))
-    another-there {at = at} e = record { reading = λ l v. list-other at edit.seen edit.new (vertices_of edit.simplex) l (stood l v false e) }
-
-    pub no_target : {at : ℕ} → test ≡ true → count ≤ edit.new → Judged at edit view (Err (record { reason = Target; place = at }))
-    no_target {at = at} e h =
-        record { reading = λ l v. list-target at edit.seen edit.new (vertices_of edit.simplex) l (omega (arith, v.counts)) (stood l v true e) (omega (arith, v.counts)) }
-
-    pub can-be-done : {at : ℕ} → test ≡ true → edit.new < count → Judged at edit view (Ok tt)
-    can-be-done {at = at} e h =
-        record { reading = λ l v. list-moved at edit.seen edit.new (vertices_of edit.simplex) l (omega (arith, v.counts)) (stood l v true e) (omega (arith, v.counts)) }
 
 -- THE COMPLEX after the list of a kind was moved.
 pub record Replaced (kind seen new : ℕ) (X Y : Complex) : Type 0 where
@@ -117,10 +73,6 @@ marked-moved before after seen new l m full w goes A marked =
           sym (map-moved A seen new l) ∙
           ap (map A) (sym w.is);
     }
-
--- the dimension of a list's simplices is one less than its kind
-pub sub-one : (n : ℕ) → n - 1 ≡ pred n
-sub-one n = sub-suc n 0 ∙ ap pred (sub-zero n)
 
 module _ {kind seen new dim : ℕ} {X Y : Complex} (replaced : Replaced kind seen new X Y) {marks : Marks} where
   -- the list that was moved is the one whose simplices are marked

@@ -1,6 +1,6 @@
 -- What one edit record comes to, and what the loop over them keeps: what is left to read stays what the whole is.
 use Prim.Native.Nat.{ℕ, pred, ◌+◌, ◌≤◌, ◌<◌}
-use mathlib.Core.Path.{◌≡◌, refl, sym, ◌∙◌, ap, subst}
+use mathlib.Core.Path.{◌≡◌, sym, ◌∙◌, ap, subst}
 use mathlib.Core.Bool.{Bool, true, false, not}
 use mathlib.Core.List.{List}
 use native.Mathlib.Omega.{arith}
@@ -94,9 +94,6 @@ pub record Taking (b : List ℕ) (start dim : ℕ) (X : Complex) (marks : Marks)
   pub stay : MarksStay dim X marks Y after
   pub full : Full Y after
 
-pub taking-starts : (b : List ℕ) (start dim : ℕ) (X : Complex) (marks : Marks) → Full X marks → Taking b start dim X marks start X marks 64
-taking-starts b start dim X marks full = record { reading = refl; stay = λ A m. m; full = full }
-
 -- A TURN: a record was read, its list was viewed, and the edit was judged by that.
 pub record Turn (b : List ℕ) (left at : ℕ) (Y : Complex) (r : EditRead) (judgement : Result Unit Refusal) : Type 0 where
   pub one : EditTaken b left at (Ok r)
@@ -120,9 +117,6 @@ module _ {b : List ℕ} {start dim : ℕ} {X : Complex} {marks : Marks} {at : �
 
   refused-so : (e : Refusal) → read_edits 64 b start (complex_of X) ≡ refused_by e → EditsTaken b start dim X marks (Err e)
   refused-so e is = record { reading = is; stay = λ r f. absurd (not_read f) }
-
-  pub record-refuses : {r : Result EditRead Refusal} → EditTaken b left at r → (e : Refusal) → r ≡ Err e → EditsTaken b start dim X marks (Err e)
-  record-refuses one e is = refused-so e (so_far.reading ∙ one.reading (complex_of Y) ∙ rw is)
 
   module _ {r : EditRead} {judgement : Result Unit Refusal} (turn : Turn b left at Y r judgement) where
     edit-read : read_edits 64 b start (complex_of X)

@@ -86,6 +86,7 @@ pub struct View {
 }
 
 // Of a view of each list, the one of the list of a kind.
+#[tactic(auto, unfolding(format::specs::Simplex::simplices))]
 fn view_of(kind: usize, edges: View, triangles: View, tetrahedra: View) -> View
     ensures { Chosen kind edges triangles tetrahedra result }
 {
@@ -100,6 +101,7 @@ fn view_of(kind: usize, edges: View, triangles: View, tetrahedra: View) -> View
 
 // Judges the edit of the record at a place: 10 where its simplex does not stand at the seen position, then 11 where there
 // is no such new position.
+#[tactic(auto, unfolding(format::specs::EditLaws::edited_list))]
 fn judge(at: usize, edit: Edit, view: View) -> Result<(), Refusal>
     ensures { Judged at edit view result }
 {

@@ -52,6 +52,7 @@ pub fn may_ask(question: usize, d: usize) -> bool
 }
 
 // A head's payload: 5 where the question, d or v is outside its range.
+#[tactic(auto, unfolding(format::specs::Reading::read_head))]
 pub fn read_head(p: &[u8]) -> Result<Head, Refusal>
     ensures { HeadKnown p.now result }
 {

@@ -1,7 +1,6 @@
 -- What each stage's verdict comes to: a refusal is the whole reading's, and otherwise the rest of the definition follows.
 use Prim.Native.Nat.{ℕ, ◌-◌, ◌≤◌, ◌<◌}
-use native.Mathlib.Numerals.{sub-one}
-use mathlib.Core.Path.{◌≡◌, refl, sym, ◌∙◌, ap, ap₂, subst, subst₂, fun_ext}
+use mathlib.Core.Path.{◌≡◌, refl, sym, ◌∙◌, ap, subst, fun_ext}
 use mathlib.Core.Bool.{false, false≢true}
 use mathlib.Core.List.{List, []}
 use native.Mathlib.Omega.{arith}
@@ -31,15 +30,13 @@ use Rattle.lookup.specs.NumberedLaws.{none_in}
 use Rattle.reading_lists.specs.Items.{FacesIn}
 use Rattle.stages.specs.Meaning.{NothingRead}
 use Rattle.stages.specs.declared.ListRead.{ListRead}
-use Rattle.complexes.specs.Meaning.{job_of, Marked}
+use Rattle.complexes.specs.Meaning.{Marked}
 use Rattle.lent_lists.specs.Held.{complex_in, Held, EditsHeld}
 use Rattle.lent_lists.specs.declared.Counts.{Counts}
 use Rattle.lent_lists.specs.declared.Edited.{Edited}
-use Rattle.lists.specs.declared.Marks.{Marks}
 use Rattle.chain_stage.specs.Meaning.{ChainStageRead}
 use Rattle.chain_stage.specs.declared.ChainStage.{ChainStage}
-use Rattle.jobs.specs.Meaning.{Outcome, SoundHead, ListSound, ListHeld, Lists, read_lists, lists_in, ListsTold, job_in, Unedited, Told, ByValue}
-use Rattle.complexes.specs.declared.Job.{Job}
+use Rattle.jobs.specs.Meaning.{SoundHead, ListSound, ListHeld, Lists, read_lists, lists_in, ListsTold, job_in, Unedited, Told}
 use Rattle.jobs.specs.declared.NumbersRead.{NumbersRead}
 use Rattle.jobs.specs.declared.ListsRead.{ListsRead}
 
@@ -54,48 +51,11 @@ unedited-refused e is = record {
   head = λ j f. absurd (not_read f);
 }
 
-pub told-refused : {r : Reading reader.Job} {e_keys t_keys s_keys t_sides s_sides : List ℕ} (e : Refusal) → r ≡ refused_by e
-    → Told r e_keys t_keys s_keys t_sides s_sides (Err e)
-told-refused e is = record {
-  set = λ s. false;
-  is = is;
-  held = λ j f. absurd (not_read f);
-  marks = λ j f. absurd (not_read f);
-  head = λ j f. absurd (not_read f);
-}
-
 -- what is read as one thing is read as what that is
 pub unedited-same : {r s : Reading reader.Job} {b e_keys t_keys s_keys t_sides s_sides : List ℕ} (j : Result NumbersRead Refusal) → r ≡ s
     → Unedited s b e_keys t_keys s_keys t_sides s_sides j → Unedited r b e_keys t_keys s_keys t_sides s_sides j
 unedited-same {b = b} {e_keys = e_keys} {t_keys = t_keys} {s_keys = s_keys} {t_sides = t_sides} {s_sides = s_sides} j e o =
     subst (λ (x : Reading reader.Job). Unedited x b e_keys t_keys s_keys t_sides s_sides j) (sym e) o
-
--- THE JOB BY VALUE, from what was read into arrays.
-pub outcome-refused : {r : Reading reader.Job} (e : Refusal) → r ≡ refused_by e → Outcome r (Err e)
-outcome-refused e is = record {
-  set = λ s. false;
-  is = is;
-  marks = λ j f. absurd (not_read f);
-  head = λ j f. absurd (not_read f);
-  v = λ j f. absurd (not_read f);
-}
-
-pub outcome-fine : {r : Reading reader.Job} {e_keys t_keys s_keys t_sides s_sides : List ℕ} {read : Result NumbersRead Refusal} {j : NumbersRead}
-    → Told r e_keys t_keys s_keys t_sides s_sides read → read ≡ Ok j → (k : Job) → ByValue j e_keys t_keys s_keys k → Outcome r (Ok k)
-outcome-fine {r} {e_keys} {t_keys = t_keys} {s_keys = s_keys} {j = j} told fine k by = record {
-  set = told.set;
-  is = told.is ∙ ap (reading_of (λ j. job_in j e_keys t_keys s_keys told.set)) fine ∙ ap accepted (sym same);
-  marks = λ x f.
-      subst (λ (y : Job). Marked y.marks.on (rows (job_of y told.set)) told.set) (same_read f)
-      (subst₂ (λ (m : Marks) (y : reader.Job). Marked m.on (rows y) told.set) (sym by.marks) (sym same) (told.marks j fine));
-  head = λ x f. subst SoundHead (sym by.head ∙ ap (λ (y : Job). y.head) (same_read f)) (told.head j fine);
-  v = λ x f.
-      subst (λ (y : Job). y.head.v ≡ y.complex.v) (same_read f)
-      (ap (λ (h : Head). h.v) by.head ∙ ap (λ (Y : format.Complex). Y.v) (sym by.complex));
-}
-  where
-    same : job_of k told.set ≡ job_in j e_keys t_keys s_keys told.set
-    same = ap₂ (λ (h : Head) (Y : format.Complex). record { question = question_of h.question; d = h.d; complex = Y; chain = told.set }) by.head by.complex
 
 pub list-known : (b : List ℕ) (at kind v : ℕ) (faces : List Simplex) (l : Listing) → 0 < kind → read_list small b at kind v faces ≡ accepted l → ListSound kind v faces l.list
 list-known b at kind v faces l positive e =
@@ -204,16 +164,6 @@ module _ (b : List ℕ) where
       unfolding reading
       head-fine n h e = rw (le-ltb 6690 (length b) fits, record-opened head_fits b 0 head_kind, whole, long, eq-eqb size 4 n, e, n)
 
--- THE DIMENSION OF A.
-pub dimension-none : (q d : ℕ) → q ≡ 1 → d ≡ 0 → 0 ≡ chain_dimension (question_of q) d
-dimension-none q d e z = rw (eq-eqb q 1 e, z)
-
-pub dimension-filling : (q d : ℕ) → q ≡ 1 → d - 1 ≡ chain_dimension (question_of q) d
-dimension-filling q d e = rw (eq-eqb q 1 e) (sub-one d)
-
-pub dimension-class : (q d : ℕ) → (q ≡ 1 → ⊥) → d ≡ chain_dimension (question_of q) d
-dimension-class q d n = rw (ne_eqb q 1 n)
-
 -- WHAT IS ASKED ABOUT stands before the edits.
 module _ (b : List ℕ) (at dim : ℕ) (head : Head) (counts : Counts) (e_keys t_keys s_keys : List ℕ) {r : Result ChainStage Refusal}
     (e : dim ≡ chain_dimension (question_of head.question) head.d)
@@ -266,15 +216,6 @@ module _ {r : Reading reader.Job} {b e_keys t_keys s_keys t_sides s_sides : List
       u.is
       ∙ ap (λ (x : Reading format.Complex). x and_then λ Y. accepted (asking Y)) taken.reading
       ∙ reading-then done (λ after. complex_in j.head.v after.counts e_keys' t_keys' s_keys') asking
-
-  pub edits-refused : (x : Refusal) → done ≡ Err x → Told r e_keys' t_keys' s_keys' t_sides' s_sides' (Err x)
-  edits-refused x is = record {
-    set = u.set;
-    is = edited ∙ ap (reading_of (λ after. asking (complex_in j.head.v after.counts e_keys' t_keys' s_keys'))) is;
-    held = λ j f. absurd (not_read f);
-    marks = λ j f. absurd (not_read f);
-    head = λ j f. absurd (not_read f);
-  }
 
   pub edits-told : (after : Edited) (next : ℕ) → done ≡ Ok after
       → Told r e_keys' t_keys' s_keys' t_sides' s_sides' (Ok (record { head = j.head; counts = after.counts; marks = after.marks; next = next }))

@@ -11,8 +11,8 @@ use Rattle.format.specs.Sound.{SoundComplex}
 use Rattle.format.proofs.Accepted.{edits-keep, edits-vertices, few-reordered, complex-reordered}
 use Rattle.format.proofs.EditLaws.{edits-ended}
 use Rattle.std.specs.Prelude.{Result}
-use Rattle.std.proofs.Common.{Ok, Err}
-use Rattle.refusals.specs.Readings.{reading_of, not_read, same_read}
+use Rattle.std.proofs.Common.{Ok}
+use Rattle.refusals.specs.Readings.{reading_of, same_read}
 use Rattle.refusals.specs.declared.Refusal.{Refusal}
 use Rattle.lists.specs.declared.Marks.{Marks}
 use Rattle.complexes.specs.Meaning.{complex_of, Marked}
@@ -47,14 +47,6 @@ module _ {b : List ℕ} {at dim : ℕ} {marks : Marks} where
   module _ {X : format.Complex} {Y : Complex} {r : Result EditsRead Refusal} (made : complex_of Y ≡ X) (taken : EditsTaken b at dim Y marks r) where
     read : read_edits 64 b at X ≡ reading_of (λ after. complex_of after.complex) r
     read = ap (read_edits 64 b at) (sym made) ∙ taken.reading
-
-    pub editing-refused : {v : ℕ} {e_keys t_keys s_keys t_sides s_sides : List ℕ} (e : Refusal) → r ≡ Err e
-        → EditsHeld b at dim v X marks e_keys t_keys s_keys t_sides s_sides (Err e)
-    editing-refused e is = record {
-      reading = read ∙ ap (reading_of (λ after. complex_of after.complex)) is;
-      held = λ after f. absurd (not_read f);
-      stay = λ after f. absurd (not_read f);
-    }
 
     -- nothing was refused
     module _ {after : EditsRead} (fine : r ≡ Ok after) where

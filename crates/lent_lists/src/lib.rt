@@ -33,6 +33,7 @@ impl Counts {
     }
 
     // How many simplices of a dimension there are in a complex of v vertices.
+    #[tactic(auto, unfolding(format::specs::Simplex::simplices))]
     pub fn of(self, v: u16, dim: usize) -> usize
         ensures { (X : format.Complex) → Counted X v self → result ≡ length (simplices X dim) }
     {

@@ -19,8 +19,7 @@ use Rattle.format.specs.RoundTrip.{length-normal_form, normal-fits, chosen-fits}
 use Rattle.format.specs.Promise.{two_numbers, WrittenJob, too_short, written, Written, WritePromise}
 use Rattle.lists.specs.Meaning.{simplices_of}
 use Rattle.std.specs.Prelude.{Result}
-use Rattle.std.proofs.Common.{Ok, Err}
-use Rattle.refusals.specs.Meaning.{number_of}
+use Rattle.std.proofs.Common.{Ok}
 use Rattle.refusals.specs.declared.Refusal.{Refusal}
 use Rattle.complexes.specs.Meaning.{job_of, list_of, Marked}
 use Rattle.complexes.specs.declared.Job.{Job}
@@ -29,7 +28,7 @@ use Rattle.heads.specs.declared.Head.{Head}
 use Rattle.lists.specs.declared.Marks.{Marks}
 use Rattle.lent_lists.specs.HeldLaws.{held-roomy}
 use Rattle.jobs.specs.Meaning.{SoundHead, Readable, job_in, Told, ByValue}
-use Rattle.jobs.specs.Known.{told-refusal, told-accepted, told_asking}
+use Rattle.jobs.specs.Known.{told-accepted, told_asking}
 use Rattle.jobs.specs.declared.NumbersRead.{NumbersRead}
 use Rattle.writer.specs.Meaning.{Put, job_bytes}
 use Rattle.writer.specs.Splice.{splice}
@@ -100,9 +99,6 @@ module _ {j : NumbersRead} {e_keys t_keys s_keys : List ℕ} (w : Writable j e_k
 -- THE FILE, read into lent arrays.
 module _ (b : List ℕ) {e_keys t_keys s_keys t_sides s_sides : List ℕ} {r : Result NumbersRead Refusal}
     (o : Told (reading small b) e_keys t_keys s_keys t_sides s_sides r) where
-  pub write-refused : (out : List ℕ) (e : Refusal) (result : ℕ) → r ≡ Err e → result ≡ two_numbers (number_of e.reason) e.place → WritePromise small b out result out
-  write-refused out e result v is = subst (λ x. Written x out result out) (sym (told-refusal o v)) (is, refl)
-
   unfoldable pub writable : (j : NumbersRead) → r ≡ Ok j → Writable j e_keys t_keys s_keys
   writable j v =
       let a = told_asking b j r o v in

@@ -4,13 +4,10 @@ use mathlib.Core.Path.{subst}
 use Rattle.format.specs.Numbers.{small}
 use Rattle.format.specs.Reading.{reading}
 use Rattle.jobs.specs.Meaning.{Unedited, Told}
-use Rattle.jobs.specs.Known.{unedited-refusal, unedited-told, told_asking}
-use Rattle.answering.proofs.Told.{file-refused, file-answered}
+use Rattle.jobs.specs.Known.{unedited-told, told_asking}
+use Rattle.answering.proofs.Told.{file-answered}
 use Rattle.answering.proofs.answer_in.Goals.{In-Ok-take_edits}
 use Rattle.answering.proofs.answer_in.Goals as goal
-
-pub returns-in-Err : goal.returns-in-Err
-returns-in-Err c = file-refused (unedited-refusal c.read_unedited.ensures c.in-Err.is) c.refuse.ensures
 
 -- no edits stand behind what was read
 pub answer_job-requires-clause-asking : goal.answer_job-requires-clause-asking

@@ -34,14 +34,6 @@ returns-then-not-edit_fits c =
 fits : (c : Else-not-edit_fits) → edit_fits c.payload-p.result.now ≡ true
 fits c = sym c.edit_fits.ensures ∙ c.if-not-edit_fits.false
 
-pub edit_of-edit-requires : goal.edit_of-edit-requires
-edit_of-edit-requires c = fits c
-
-pub overflow_add-result : goal.overflow_add-result
-overflow_add-result c =
-    let a = c.args in
-    omega (arith, opened_inside (eqb 7) a.job.now a.at _ (found (goal.at.overflow_add-result c).In_ok-size))
-
 pub overflow_add-result-2 : goal.overflow_add-result-2
 overflow_add-result-2 c =
     let a = c.args in

@@ -3,6 +3,7 @@ use Prim.Native.Nat.{◌-◌}
 use mathlib.Core.Path.{◌≡◌, refl, sym, subst}
 use Rattle.refusals.specs.Readings.{handed_up}
 use native.Mathlib.Omega.{arith}
+use native.Mathlib.Numerals.{sub-one}
 use lib.ListN.{length}
 use Rattle.format.specs.Reading.{moved, list_of_kind}
 use Rattle.format.specs.EditLaws.{MovedWithin}
@@ -11,31 +12,11 @@ use Rattle.lists.specs.declared.Marks.{Marks}
 use Rattle.complexes.specs.Meaning.{complex_of}
 use Rattle.complexes.specs.declared.Complex.{Complex}
 use Rattle.edits.specs.Meaning.{EditTaken, MarksStay}
-use Rattle.edits.proofs.Laws.{viewed, Replaced, edges-moved, triangles-moved, tetrahedra-moved, sub-one, marks-go-along, marks-stand}
-use Rattle.edits.proofs.Taking.{Full, Taking, Turn, taking-starts, taking-ends, record-refuses, judge-refuses, moves-within, taking-goes-on}
+use Rattle.edits.proofs.Laws.{viewed, Replaced, edges-moved, triangles-moved, tetrahedra-moved, marks-go-along, marks-stand}
+use Rattle.edits.proofs.Taking.{Full, Taking, Turn, taking-ends, judge-refuses, moves-within, taking-goes-on}
 use Rattle.std.proofs.Common.{rules}
-use Rattle.edits.proofs.read_edits.Goals.{then-kind, else-kind+then-kind-2, else-kind+else-kind-2, After-judge, In_ok-judge, Joined-kind, Start}
+use Rattle.edits.proofs.read_edits.Goals.{then-kind, else-kind+then-kind-2, else-kind+else-kind-2, After-judge, Joined-kind}
 use Rattle.edits.proofs.read_edits.Goals as goal
-
--- the arrays have all their places
-full : (c : Start) → Full c.args.complex c.args.marks
-full c =
-    record {
-      edges = search (rules, length-mapped);
-      triangles = search (rules, length-mapped);
-      tetrahedra = search (rules, length-mapped);
-      all_marks = search rules;
-    }
-
-pub loop-at-init : goal.loop-at-init
-loop-at-init c =
-    let a = c.args in
-    taking-starts a.job.now a.at a.dim a.complex a.marks (full (goal.at.loop-at-init c).Start)
-
-pub returns-in_err-read : goal.returns-in_err-read
-returns-in_err-read c =
-    rw (handed_up c.from_residual.result c.from_residual.ensures.1)
-    (record-refuses c.loop-at.invariant c.read_edit.ensures _ c.in_err-read.was)
 
 -- what the turn has come to with the judgement: the view is of the list that the edit names
 turn : (c : After-judge)
@@ -59,82 +40,61 @@ returns-in_err-judge c =
     rw (handed_up up.result up.ensures.1)
     (judge-refuses c.loop-at.invariant (turn (goal.at.returns-in_err-judge c).After-judge) _ c.in_err-judge.was)
 
--- both positions are in the list
-within : (c : In_ok-judge)
-    →
-    let list = list_of_kind c.in_ok-read.read.edit.kind (complex_of c.loop-at.complex) in
-    MovedWithin c.in_ok-read.read.edit.seen c.in_ok-read.read.edit.new list (moved c.in_ok-read.read.edit.seen c.in_ok-read.read.edit.new list)
-within c = moves-within (turn (record { before = c.before.before.before; type_inv = record { job = c.type_inv.job } })) c.in_ok-judge.was
+-- past the judgement
+module _ (c : Joined-kind) (j : Turn c.args.job.now c.loop-at.left c.loop-at.at c.loop-at.complex c.in_ok-read.read c.judge.result) where
+  -- both positions are in the list
+  within : let list = list_of_kind c.in_ok-read.read.edit.kind (complex_of c.loop-at.complex) in
+      MovedWithin c.in_ok-read.read.edit.seen c.in_ok-read.read.edit.new list (moved c.in_ok-read.read.edit.seen c.in_ok-read.read.edit.new list)
+  within = moves-within j c.in_ok-judge.was
 
--- the complex with the list moved
-abbrev changed : Joined-kind → Complex
-changed c = c.if-kind.complex
+  -- the complex has the list moved
+  replaced : Replaced c.in_ok-read.read.edit.kind c.in_ok-read.read.edit.seen c.in_ok-read.read.edit.new c.loop-at.complex c.if-kind.complex
+  replaced =
+      let below = within.new_below in
+      elim c.if-kind.branch [
+        | then-kind w ↦ subst (Replaced _ _ _ _) (sym w.complex-is) (edges-moved c.loop-at.complex w.moved-complex.result below w.if-kind.true w.moved-complex.ensures)
+        | else-kind+then-kind-2 w ↦
+            subst (Replaced _ _ _ _) (sym w.complex-is) (triangles-moved c.loop-at.complex w.moved-complex-then-kind-2.result below w.if-kind-2.true w.moved-complex-then-kind-2.ensures)
+        | else-kind+else-kind-2 w ↦
+            subst (Replaced _ _ _ _) (sym w.complex-is) (tetrahedra-moved c.loop-at.complex w.moved-complex-else-kind-2.result below (omega (arith, w.if-kind.false, w.if-kind-2.false, j.one.least _ refl, j.one.most _ refl)) w.moved-complex-else-kind-2.ensures)
+      ]
 
-replaced : (c : Joined-kind)
-    →
-    Replaced c.in_ok-read.read.edit.kind c.in_ok-read.read.edit.seen c.in_ok-read.read.edit.new c.loop-at.complex (changed c)
-replaced c =
-    let j = turn (record { before = c.before.before.before.before; type_inv = record { job = c.type_inv.job } }) in
-    let below = (within (record { before = c.before.before; type_inv = record { job = c.type_inv.job } })).new_below in
-    elim c.if-kind.branch [
-      | then-kind w ↦ subst (Replaced _ _ _ _) (sym w.complex-is) (edges-moved c.loop-at.complex w.moved-complex.result below w.if-kind.true w.moved-complex.ensures)
-      | else-kind+then-kind-2 w ↦
-          subst (Replaced _ _ _ _) (sym w.complex-is) (triangles-moved c.loop-at.complex w.moved-complex-then-kind-2.result below w.if-kind-2.true w.moved-complex-then-kind-2.ensures)
-      | else-kind+else-kind-2 w ↦
-          subst (Replaced _ _ _ _) (sym w.complex-is) (tetrahedra-moved c.loop-at.complex w.moved-complex-else-kind-2.result below (omega (arith, w.if-kind.false, w.if-kind-2.false, j.one.least _ refl, j.one.most _ refl)) w.moved-complex-else-kind-2.ensures)
-    ]
+  full-after : Full c.if-kind.complex c.loop-at.marks
+  full-after =
+      let full = c.loop-at.invariant.full in
+      elim c.if-kind.branch [
+        | then-kind w ↦
+            subst (λ (x : Complex). Full x c.loop-at.marks) (sym w.complex-is)
+            (record { edges = search (rules, length-mapped); triangles = full.triangles; tetrahedra = full.tetrahedra; all_marks = full.all_marks })
+        | else-kind+then-kind-2 w ↦
+            subst (λ (x : Complex). Full x c.loop-at.marks) (sym w.complex-is)
+            (record { edges = full.edges; triangles = search (rules, length-mapped); tetrahedra = full.tetrahedra; all_marks = full.all_marks })
+        | else-kind+else-kind-2 w ↦
+            subst (λ (x : Complex). Full x c.loop-at.marks) (sym w.complex-is)
+            (record { edges = full.edges; triangles = full.triangles; tetrahedra = search (rules, length-mapped); all_marks = full.all_marks })
+      ]
 
-full-after : (c : Joined-kind)
-    →
-    Full (changed c) c.loop-at.marks
-full-after c =
-    let full = c.loop-at.invariant.full in
-    elim c.if-kind.branch [
-      | then-kind w ↦
-          subst (λ (x : Complex). Full x c.loop-at.marks) (sym w.complex-is)
-          (record { edges = search (rules, length-mapped); triangles = full.triangles; tetrahedra = full.tetrahedra; all_marks = full.all_marks })
-      | else-kind+then-kind-2 w ↦
-          subst (λ (x : Complex). Full x c.loop-at.marks) (sym w.complex-is)
-          (record { edges = full.edges; triangles = search (rules, length-mapped); tetrahedra = full.tetrahedra; all_marks = full.all_marks })
-      | else-kind+else-kind-2 w ↦
-          subst (λ (x : Complex). Full x c.loop-at.marks) (sym w.complex-is)
-          (record { edges = full.edges; triangles = full.triangles; tetrahedra = search (rules, length-mapped); all_marks = full.all_marks })
-    ]
-
--- the loop goes on with the list moved, and with any marks that hold the same set
-goes_on : (c : Joined-kind) (later : Marks)
-    →
-    let a = c.args in
-    MarksStay a.dim c.loop-at.complex c.loop-at.marks (changed c) later
-    → length later.on ≡ 512
-    → Taking a.job.now a.at a.dim a.complex a.marks c.in_ok-read.read.next (changed c) later (c.loop-at.left - 1)
-goes_on c later stays all =
-    let full = full-after c in
-    taking-goes-on c.loop-at.invariant (turn (record { before = c.before.before.before.before; type_inv = record { job = c.type_inv.job } })) c.in_ok-judge.was (changed c) (replaced c) later stays
-    (record { edges = full.edges; triangles = full.triangles; tetrahedra = full.tetrahedra; all_marks = all }) _ (sub-one _)
-
-pub overflow_sub-left : goal.overflow_sub-left
-overflow_sub-left c = let j = turn (goal.at.overflow_sub-left c).After-judge in j.one.allowed _ refl
-
-pub overflow_sub-kind : goal.overflow_sub-kind
-overflow_sub-kind c = let j = turn (goal.at.overflow_sub-kind c).After-judge in omega (arith, j.one.least _ refl)
-
-pub loop-at-smaller-then-kind-dim : goal.loop-at-smaller-then-kind-dim
-loop-at-smaller-then-kind-dim c = let j = turn (goal.at.loop-at-smaller-then-kind-dim c).After-judge in omega (arith, j.one.allowed _ refl)
+  -- the loop goes on, with any marks that hold the same set
+  goes_on : (later : Marks) → MarksStay c.args.dim c.loop-at.complex c.loop-at.marks c.if-kind.complex later → length later.on ≡ 512
+      → Taking c.args.job.now c.args.at c.args.dim c.args.complex c.args.marks c.in_ok-read.read.next c.if-kind.complex later (c.loop-at.left - 1)
+  goes_on later stays all =
+      let full = full-after in
+      taking-goes-on c.loop-at.invariant j c.in_ok-judge.was c.if-kind.complex replaced later stays
+      (record { edges = full.edges; triangles = full.triangles; tetrahedra = full.tetrahedra; all_marks = all }) _ (sub-one _)
 
 pub loop-at-preserved-then-kind-dim : goal.loop-at-preserved-then-kind-dim
 loop-at-preserved-then-kind-dim c =
-    let j = turn (goal.at.loop-at-preserved-then-kind-dim c).After-judge in
-    goes_on (goal.at.loop-at-preserved-then-kind-dim c).Joined-kind c.moved-marks.result
-    (marks-go-along (replaced (goal.at.loop-at-preserved-then-kind-dim c).Joined-kind) (j.one.least _ refl) (j.one.most _ refl) (within (goal.at.loop-at-preserved-then-kind-dim c).In_ok-judge) c.if-kind-dim.true c.loop-at.invariant.full.all_marks c.moved-marks.ensures)
+    let at = goal.at.loop-at-preserved-then-kind-dim c in
+    let j = turn at.After-judge in
+    goes_on at.Joined-kind j c.moved-marks.result
+    (marks-go-along (replaced at.Joined-kind j) (j.one.least _ refl) (j.one.most _ refl) (within at.Joined-kind j) c.if-kind-dim.true c.loop-at.invariant.full.all_marks c.moved-marks.ensures)
     (search (rules, c.moved-marks.type_inv))
-
-pub loop-at-smaller : goal.loop-at-smaller
-loop-at-smaller c = let j = turn (goal.at.loop-at-smaller c).After-judge in omega (arith, j.one.allowed _ refl)
 
 pub loop-at-preserved : goal.loop-at-preserved
 loop-at-preserved c =
-    goes_on (goal.at.loop-at-preserved c).Joined-kind c.loop-at.marks (marks-stand (replaced (goal.at.loop-at-preserved c).Joined-kind) c.if-kind-dim.false) c.loop-at.invariant.full.all_marks
+    let at = goal.at.loop-at-preserved c in
+    let j = turn at.After-judge in
+    goes_on at.Joined-kind j c.loop-at.marks (marks-stand (replaced at.Joined-kind j) c.if-kind-dim.false) c.loop-at.invariant.full.all_marks
 
 pub returns : goal.returns
 returns c = taking-ends c.loop-at.invariant c.loop-at-test.false

@@ -37,17 +37,3 @@ pub overflow_add-behind_triangles-2 : goal.overflow_add-behind_triangles-2
 overflow_add-behind_triangles-2 c =
     let past = goal.at.overflow_add-behind_triangles-2 c in
     omega (arith, behind-edges past.After-list_bytes-edges, triangles-are c, triangles-within c.args.job.now, c.well_formed.0.0)
-
-pub returns : goal.returns
-returns c =
-    let job = c.args.job.now in
-    let edges = behind-edges (goal.at.returns c).After-list_bytes-edges in
-    let triangles = triangles-are (goal.at.returns c).After-list_bytes-triangles in
-    record {
-      edges = c.list_bytes-edges.ensures;
-      triangles = triangles;
-      tetrahedra =
-          c.list_bytes-tetrahedra.ensures
-          ∙ ap (λ (n : ℕ). size_at job (n + 6 + c.list_bytes-triangles.result) 4) edges
-          ∙ ap (λ (n : ℕ). size_at job (end_at job 10 2 + 6 + n) 4) triangles;
-    }

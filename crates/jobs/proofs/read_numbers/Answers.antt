@@ -1,19 +1,8 @@
 -- `jobs::read_numbers` meets its contract: what is read up to the edits, and then edited, is the job.
 -- Assumes nothing.
 use mathlib.Core.Path.{subst}
-use Rattle.refusals.specs.Readings.{handed_up}
 use Rattle.jobs.specs.Meaning.{Unedited}
-use Rattle.jobs.proofs.Laws.{told-refused}
-use Rattle.jobs.specs.Known.{unedited-refusal}
 use Rattle.jobs.proofs.read_numbers.Goals as goal
-
-pub returns-in_err-unedited : goal.returns-in_err-unedited
-returns-in_err-unedited c =
-    rw (handed_up c.from_residual.result c.from_residual.ensures.1)
-    (told-refused _ (unedited-refusal c.read_unedited.ensures c.in_err-unedited.was))
-
-pub take_edits-requires : goal.take_edits-requires
-take_edits-requires c = c.read_unedited.ensures.held _ c.in_ok-unedited.was
 
 pub returns : goal.returns
 returns c = c.take_edits.ensures _ (subst (Unedited _ _ _ _ _ _ _) c.in_ok-unedited.was c.read_unedited.ensures)

@@ -5,31 +5,14 @@ use Prim.Native.Nat.{ℕ}
 use native.Mathlib.Omega.{arith}
 use mathlib.Core.Path.{sym, subst}
 use Rattle.lookup.specs.Indexed.{Keyed}
-use Rattle.lookup.specs.IndexLaws.{zeros-blank}
 use Rattle.lookup.specs.Numbered.{simplices_in}
-use Rattle.refusals.specs.Readings.{handed_up, not_read}
 use Rattle.stages.specs.Meaning.{ListTaken, TakenList}
 use Rattle.jobs.proofs.Laws.{nothing-held}
 use Rattle.jobs.proofs.read_tetrahedra.Goals.{In_ok-taken}
 use Rattle.jobs.proofs.read_tetrahedra.Goals as goal
 
-pub read_nothing-requires : goal.read_nothing-requires
-read_nothing-requires c =
-    record { le_kind = omega arith; room_at = λ fits. omega (arith, c.requires.room_at fits, c.if-s_keys-eq0.true) }
-
 pub returns-then-s_keys-eq0 : goal.returns-then-s_keys-eq0
 returns-then-s_keys-eq0 c = λ faces under. nothing-held c.read_nothing.ensures
-
-pub read_list-requires : goal.read_list-requires
-read_list-requires c =
-    record { le_kind = (omega arith, omega arith); room_at = c.requires.room_at; blank = zeros-blank }
-
-pub returns-in_err-taken : goal.returns-in_err-taken
-returns-in_err-taken c = λ faces under.
-    let a = c.args in
-    let told = subst (ListTaken a.job.now a.at 4 a.v c.read_list.new.keys c.read_list.new.first c.read_list.new.next) c.in_err-taken.was c.read_list.ensures in
-    rw (handed_up c.from_residual.result c.from_residual.ensures.1)
-    (record { reads = sym (told.reads faces); keyed = λ l f. absurd (not_read f); within = λ l f. absurd (not_read f); sided = λ l f. absurd (not_read f) })
 
 -- the tetrahedra were taken
 taken : (c : In_ok-taken) → let a = c.args in
@@ -37,16 +20,6 @@ taken : (c : In_ok-taken) → let a = c.args in
 taken c =
     let a = c.args in
     subst (ListTaken a.job.now a.at 4 a.v c.read_list.new.keys c.read_list.new.first c.read_list.new.next) c.in_ok-taken.was c.read_list.ensures
-
-pub find_faces-requires : goal.find_faces-requires
-find_faces-requires c =
-    let t = taken (goal.at.find_faces-requires c).In_ok-taken in
-    record {
-      lt_kind = (omega arith, omega arith, c.requires.m_bound);
-      chained = c.requires.chained;
-      count_in_bounds = (t.indexed.chained.keyed, omega (arith, t.indexed.chained.keyed, c.requires.s_keys_in_bounds, c.read_list.auto.keys));
-      count_in_bounds_2 = t.within;
-    }
 
 pub returns : goal.returns
 returns c = λ faces under.

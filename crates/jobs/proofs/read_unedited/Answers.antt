@@ -59,28 +59,8 @@ returns-in_err-head c =
     (head-bad c.args.job.now (short ok) c.in_ok-size.size (whole ok) (four read) _ _
     (told (reading_of head_of) _ _ _ (head_read read) c.in_err-head.was)))
 
-pub after_head-requires : goal.after_head-requires
-after_head-requires c =
-    record {
-      job_len_bound = short (goal.at.after_head-requires c).In_ok-size;
-      sound_head = head-known _ _ c.read_head.ensures c.in_ok-head.was;
-      file_room = c.requires;
-    }
-
-pub shape_of-e_keys : goal.shape_of-e_keys
-shape_of-e_keys c = c.after_head.auto.e_keys
-
-pub shape_of-t_keys : goal.shape_of-t_keys
-shape_of-t_keys c = c.after_head.auto.t_keys
-
-pub shape_of-s_keys : goal.shape_of-s_keys
-shape_of-s_keys c = c.after_head.auto.s_keys
-
-pub shape_of-t_sides : goal.shape_of-t_sides
-shape_of-t_sides c = c.after_head.auto.t_sides
-
-pub shape_of-s_sides : goal.shape_of-s_sides
-shape_of-s_sides c = c.after_head.auto.s_sides
+pub after_head-requires-clause-sound_head : goal.after_head-requires-clause-sound_head
+after_head-requires-clause-sound_head c = head-known _ _ c.read_head.ensures c.in_ok-head.was
 
 pub returns : goal.returns
 returns c =

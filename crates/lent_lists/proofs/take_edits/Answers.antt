@@ -2,21 +2,11 @@
 -- what is left of it is put into the arrays again.
 -- Assumes nothing.
 use mathlib.Core.Path.{refl}
-use Rattle.refusals.specs.Readings.{handed_up}
-use Rattle.lent_lists.specs.HeldLaws.{held-roomy}
-use Rattle.lent_lists.proofs.Editing.{editing-none, editing-refused, editing-room, editing-done}
+use Rattle.lent_lists.proofs.Editing.{editing-none, editing-room, editing-done}
 use Rattle.lent_lists.proofs.take_edits.Goals as goal
 
 pub returns-then-job-at : goal.returns-then-job-at
 returns-then-job-at c = editing-none c.if-job-at.true c.requires
-
-pub complex_of-complex-requires : goal.complex_of-complex-requires
-complex_of-complex-requires c = held-roomy c.requires
-
-pub returns-in_err-edited : goal.returns-in_err-edited
-returns-in_err-edited c =
-    rw (handed_up c.from_residual.result c.from_residual.ensures.1)
-    (editing-refused c.complex_of-complex.ensures c.read_edits.ensures _ c.in_err-edited.was)
 
 pub hold-counts_after-requires : goal.hold-counts_after-requires
 hold-counts_after-requires c =

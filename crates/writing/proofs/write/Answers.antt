@@ -1,17 +1,12 @@
 -- `writing::write` meets its contract: a refusal's number and place are the reading's, and both fit; a job that was read is
 -- written as its normal form.
-use mathlib.Core.Path.{◌∙◌, ap}
 use native.Mathlib.Omega.{arith}
 use Rattle.format.specs.Numbers.{small}
-use Rattle.format.specs.Promise.{two_numbers}
 use Rattle.format.proofs.Places.{reading-refused}
-use Rattle.jobs.specs.Known.{told-refusal, zeros-room}
-use Rattle.writing.proofs.Laws.{write-refused, writable, write-accepted}
+use Rattle.jobs.specs.Known.{told-refusal}
+use Rattle.writing.proofs.Laws.{writable, write-accepted}
 use Rattle.std.proofs.Common.{rules}
 use Rattle.writing.proofs.write.Goals as goal
-
-pub read_numbers-read-requires : goal.read_numbers-read-requires
-read_numbers-read-requires c = zeros-room _ 10
 
 pub two_numbers-requires : goal.two_numbers-requires
 two_numbers-requires c =
@@ -20,10 +15,6 @@ two_numbers-requires c =
 
 pub write_read-requires : goal.write_read-requires
 write_read-requires c = writable _ c.read_numbers-read.ensures _ c.in-Ok.is
-
-pub returns-in-Err : goal.returns-in-Err
-returns-in-Err c =
-    write-refused _ c.read_numbers-read.ensures _ _ _ c.in-Err.is (c.two_numbers.ensures ∙ ap (λ n. two_numbers n c.in-Err.refusal.place) c.from.ensures)
 
 pub returns-in-Ok : goal.returns-in-Ok
 returns-in-Ok c = write-accepted _ c.read_numbers-read.ensures _ _ _ _ c.in-Ok.is c.write_read.ensures

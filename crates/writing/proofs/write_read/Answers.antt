@@ -6,20 +6,13 @@ use lib.ListN.{length}
 use Rattle.format.specs.Promise.{two_numbers, WrittenJob}
 use Rattle.format.specs.Reading as reader
 use Rattle.writing.specs.Meaning.{chosen_from}
-use Rattle.writing.proofs.Laws.{all-chosen, chosen-few, job-too-short, job-written, by_value, same-job}
+use Rattle.writing.proofs.Laws.{all-chosen, job-too-short, job-written, by_value, same-job}
 use Rattle.writing.proofs.write_read.Goals.{After-count-n}
 use Rattle.writing.proofs.write_read.Goals as goal
-
-pub job_by_value-job-requires : goal.job_by_value-job-requires
-job_by_value-job-requires c = c.requires.room
 
 -- as many as the dimension of A has simplices may be chosen
 all : (c : After-count-n) → c.count-n.result ≡ length (chosen_from c.job_by_value-job.result)
 all c = all-chosen c.job_by_value-job.result _ _ c.count-n.ensures.0 c.chain_dimension.ensures
-
-pub normal_length-total-requires : goal.normal_length-total-requires
-normal_length-total-requires c =
-    record { readable = by_value c.requires c.job_by_value-job.ensures; n_value = all (goal.at.normal_length-total-requires c).After-count-n }
 
 pub returns-then-out-total : goal.returns-then-out-total
 unfolding by_value
@@ -29,11 +22,6 @@ returns-then-out-total c = λ k.
     subst (λ (j : reader.Job). WrittenJob j out c.two_numbers.result out) (same-job k value.ensures)
     (job-too-short value.result (by_value k value.ensures) _ (all (goal.at.returns-then-out-total c).After-count-n) out c.two_numbers.result (omega arith)
     (c.two_numbers.ensures ∙ ap (λ n. two_numbers n 0) c.from.ensures))
-
-pub put_job-requires : goal.put_job-requires
-put_job-requires c =
-    let value = c.job_by_value-job in
-    (chosen-few value.result (by_value c.requires value.ensures) _ (all (goal.at.put_job-requires c).After-count-n), omega arith)
 
 pub returns : goal.returns
 unfolding by_value

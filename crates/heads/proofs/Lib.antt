@@ -1,2 +1,0 @@
--- Laws of the definitions that this crate's proofs share.
-pub mod Laws
