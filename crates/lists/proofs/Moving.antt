@@ -1,45 +1,48 @@
--- Moving an item by turning the part of the list between its two places by one: the item goes to the other end of the part, and
--- the others of the part follow it by one place.
-use Prim.Native.Nat.{ℕ, zero, suc, ◌+◌, ◌-◌, ◌≤◌, ◌<◌}
+-- Moving an item place by place. Why it comes out right: one step towards the new place is one exchange of neighbours, which is
+-- what moving one place further means.
+use Prim.Native.Nat.{ℕ, suc, ◌≤◌, ◌<◌}
 use native.Mathlib.Omega.{arith}
 use mathlib.Core.Path.{◌≡◌, refl, sym, ap, ap₂, ◌∙◌}
-use mathlib.Core.List.{List, [], ◌∷◌, ◌++◌, append_assoc, map}
-use lib.ListN.{length, take, drop, length-map}
-use lib.Seq.{length-take-le, take-take}
-use borrow.Rule.Slice.PartMut.{put_mid, mid_of}
-use Rattle.std.proofs.lemmas.Slice.{between_is}
-use Rattle.format.specs.Reading.{moved}
-use Rattle.format.specs.Moves.{moved_out, take-moved, map-moved}
+use mathlib.Core.List.{List, [], ◌∷◌, ◌++◌, map}
+use lib.ListN.{length, take, drop, get_or, length-map}
+use lib.Seq.{length-take-le, drop-cons, append_snoc, get_or-append_seam}
+use Rattle.std.specs.List.{swap}
+use Rattle.std.proofs.lemmas.List.Edits.{swap_is}
+use Rattle.format.specs.Reading.{without, moved}
+use Rattle.format.specs.Moves.{length_without, moved_up, moved_down, length_moved, moved_out, take-moved, map-moved}
 use Rattle.lists.specs.Meaning.{vertices_of, simplices_of}
 use Rattle.lists.specs.Moved.{MovedList, MovedMarks}
 use Rattle.lists.specs.declared.Simplex.{Simplex}
 use Rattle.lists.specs.declared.SimplexList.{SimplexList}
 use Rattle.lists.specs.declared.Marks.{Marks}
 
-module _ {A : Type 0} where
-  -- the first item of the part goes behind its last
-  pub first-behind : (seen new k : ℕ) (l : List A) → seen < new → new < length l → k + seen ≡ suc new →
-      put_mid seen k l (drop 1 (mid_of seen k l) ++ take 1 (mid_of seen k l)) ≡ moved seen new l
-  unfolding moved
-  first-behind seen new k [] up h e = absurd (omega arith)
-  first-behind zero new k (x ∷ l) up h e = let whole : k ≡ suc new = omega arith in rw whole
-  first-behind (suc seen) zero k (x ∷ l) up h e = absurd (omega arith)
-  first-behind (suc seen) (suc new) k (x ∷ l) up h e = ap (◌∷◌ x) (first-behind seen new k l (omega arith) (omega arith) (omega arith))
+-- One step of a move: the item, at place i by now or at the next, changes places with its neighbour.
+module _ {A : Type 0} (seen i next : ℕ) (one : next ≡ suc i) where
+  pub step_up : (l m : List A) → m ≡ moved seen i l → seen < length l → next < length l → swap m i next ≡ moved seen next l
+  step_up [] m e from room = absurd (omega arith)
+  step_up (d ∷ l) m e from room =
+      let long = length_moved seen i (d ∷ l) in
+      rw (e, one)
+      (sym (swap_is (moved seen i (d ∷ l)) i (suc i) d (omega (arith, long)) (omega (arith, long)))
+      ∙ moved_up d seen i (d ∷ l) from (omega arith))
 
-  -- the last item of the part goes in front of its first
-  last-of : (i : ℕ) (l : List A) → drop i (take (suc i) l) ≡ take 1 (drop i l)
-  last-of i l = let one : suc i - i ≡ 1 = omega arith in sym (between_is l i (suc i)) ∙ rw one
+  pub step_down : (l m : List A) → m ≡ moved seen next l → seen < length l → next < length l → swap m next i ≡ moved seen i l
+  step_down [] m e from room = absurd (omega arith)
+  step_down (d ∷ l) m e from room =
+      let long = length_moved seen (suc i) (d ∷ l) in
+      rw (e, one)
+      (sym (swap_is (moved seen (suc i) (d ∷ l)) (suc i) i d (omega (arith, long)) (omega (arith, long)))
+      ∙ moved_down d seen i (d ∷ l) from (omega arith))
 
-  pub last-before : (seen new k n : ℕ) (l : List A) → new ≤ seen → seen < length l → k + new ≡ suc seen → n + 1 ≡ k →
-      put_mid new k l (drop n (mid_of new k l) ++ take n (mid_of new k l)) ≡ moved seen new l
-  unfolding moved
-  last-before seen new k n [] down h e m = absurd (omega arith)
-  last-before seen zero k n (x ∷ l) down h e m =
-      let whole : k ≡ suc seen = omega arith in
-      let rest : n ≡ seen = omega arith in
-      rw (whole, rest) (rw (last-of seen (x ∷ l), take-take seen (suc seen) (x ∷ l) (omega arith)) (append_assoc (take 1 (drop seen (x ∷ l))) (take seen (x ∷ l)) (drop seen l)))
-  last-before zero (suc new) k n (x ∷ l) down h e m = absurd (omega arith)
-  last-before (suc seen) (suc new) k n (x ∷ l) down h e m = ap (◌∷◌ x) (last-before seen new k n l (omega arith) (omega arith) (omega arith) m)
+-- The moved item stands at its new place.
+pub moved-there : {A : Type 0} (d : A) (seen new : ℕ) (l : List A) → seen < length l → new < length l → get_or (moved seen new l) new d ≡ get_or l seen d
+unfolding moved
+moved-there d seen new l from to =
+    let others = without seen l in
+    let front : length (take new others) ≡ new = length-take-le new others (omega (arith, length_without seen l from)) in
+    rw (drop-cons l seen d, append_snoc)
+    (ap (λ (k : ℕ). get_or (take new others ++ get_or l seen d ∷ drop new others) k d) (sym front)
+    ∙ get_or-append_seam (take new others) (get_or l seen d) (drop new others) d)
 
 -- The list of simplices with its items moved, or left as they are.
 module _ (l : SimplexList) (n seen new : ℕ) (size : n ≡ length (simplices_of l)) where

@@ -125,15 +125,20 @@ impl Marks {
     }
 }
 
-// Takes the item at `seen` out and puts it at `new`; those between shift by one place.
+// Takes the item at `seen` out and puts it at `new`; those between shift by one place. It changes places with one neighbour after
+// the other: turning that part of the list at once would call memmove, and of the C library the header names memcpy and memset alone.
 fn move_item<T>(items: &mut [T], seen: usize, new: usize)
     requires { (seen < length items.old) × (new < length items.old) }
     ensures { items.new ≡ moved seen new items.old }
 {
     if seen < new {
-        items[seen..=new].rotate_left(1);
+        for i in seen..new {
+            items.swap(i, i + 1);
+        }
     } else {
-        items[new..=seen].rotate_right(1);
+        for i in (new..seen).rev() {
+            items.swap(i + 1, i);
+        }
     }
 }
 
