@@ -24,7 +24,7 @@ use Rattle.lookup.specs.Sides.{SidesUpTo, SidesTold}
 use Rattle.reading_lists.specs.Items.{lack_of, Shaped, ItemsTaken}
 use Rattle.reading_lists.specs.declared.ItemsRead.{ItemsRead}
 use Rattle.reading_lists.proofs.Facing.{Paid, edge-owes-none, others-owe, faces-listed, first-lacks}
-use Rattle.stages.specs.Meaning.{size_of, end_at, TakenList, SidedList, FacesFound}
+use Rattle.stages.specs.Meaning.{size_of, end_at, TakenItems, TakenList, SidedList, FacesFound}
 use Rattle.stages.specs.declared.Taken.{Taken}
 
 module _ (may : ℕ → Bool) (b : List ℕ) (at : ℕ) where
@@ -106,23 +106,25 @@ module _ (b : List ℕ) (at kind v size : ℕ) {p keys first next : List ℕ} {r
   pub list-taken : size % kind ≡ 0 → size ≤ kind * 512
       → TakenList b at kind v keys first next (record { verdict = r.verdict; count = r.count; next = at + header_bytes + size })
   list-taken even fits = record {
-    reads = λ faces sound.
-        list_read_lem b at kind v faces size whole even fits _
-        (ap (λ (q : List ℕ). read_items kind v faces (at + header_bytes) [] (items_of kind q)) (sym is) ∙ taken.reads faces sound);
-    own = λ i lt.
-        taken.own i lt ∙ ap (λ (q : List ℕ). take kind (drop (kind * i) q)) is
-        ∙ part_of (payload_at b at size) (drop size (drop (at + header_bytes) b)) (kind * i) kind (in-payload lt)
-        ∙ ap (λ (l : List ℕ). take kind (drop (kind * i) l)) (take-append-drop size (drop (at + header_bytes) b))
-        ∙ ap (take kind) (drop-drop (kind * i) (at + header_bytes) b);
-    proper = taken.proper;
-    indexed = taken.indexed;
-    few = le_of_mul-le-mul_left {k = kind} (omega (arith, taken.within, shape)) (omega (arith, shape));
-    within = λ some. omega (arith, taken.within, inside, payload-size);
+    items = record {
+      reads = λ faces sound.
+          list_read_lem b at kind v faces size whole even fits _
+          (ap (λ (q : List ℕ). read_items kind v faces (at + header_bytes) [] (items_of kind q)) (sym is) ∙ taken.reads faces sound);
+      own = λ i lt.
+          taken.own i lt ∙ ap (λ (q : List ℕ). take kind (drop (kind * i) q)) is
+          ∙ part_of (payload_at b at size) (drop size (drop (at + header_bytes) b)) (kind * i) kind (in-payload lt)
+          ∙ ap (λ (l : List ℕ). take kind (drop (kind * i) l)) (take-append-drop size (drop (at + header_bytes) b))
+          ∙ ap (take kind) (drop-drop (kind * i) (at + header_bytes) b);
+      proper = taken.proper;
+      indexed = taken.indexed;
+      few = le_of_mul-le-mul_left {k = kind} (omega (arith, taken.within, shape)) (omega (arith, shape));
+      within = λ some. omega (arith, taken.within, inside, payload-size);
+    };
     ends = ap (λ (s : ℕ). at + header_bytes + s) (sym (ap size_of whole));
   }
 
 -- RULE 8 over what was taken.
-module _ {b : List ℕ} {at kind v : ℕ} {keys first next : List ℕ} {taken : Taken} (told : TakenList b at kind v keys first next taken)
+module _ {b : List ℕ} {at kind v : ℕ} {keys first next : List ℕ} {taken : Taken} (told : TakenItems b at kind v keys first next taken)
     (faces : List Simplex) (sound : AllSound v faces) where
   abbrev list : List Simplex
   list = simplices_in kind keys taken.count

@@ -54,10 +54,10 @@ listing_of kind keys l = record { list = simplices_in kind keys l.count; next = 
 abbrev pub list_read : (kind : ℕ) → List ℕ → Result ListRead Refusal → Reading Listing
 list_read kind keys r = reading_of (listing_of kind keys) r
 
--- What taking the items of a list record leaves: an index of them. The definition's reading, over any sound faces, is then what
+-- What the items that were taken of a list record are: an index of them. The definition's reading, over any sound faces, is then what
 -- rule 8 says of the items taken, which stand one behind the other in the file, and where it refuses none of them, what was told
 -- when they were taken.
-pub record TakenList (b : List ℕ) (at kind v : ℕ) (keys first next : List ℕ) (r : Taken) : Type 0 where
+pub record TakenItems (b : List ℕ) (at kind v : ℕ) (keys first next : List ℕ) (r : Taken) : Type 0 where
   pub reads : (faces : List Simplex) → AllSound v faces
       → read_list small b at kind v faces
       ≡ (faces_judged kind v faces (at + header_bytes) (simplices_in kind keys r.count) (reading_of (λ _. simplices_in kind keys r.count) r.verdict)
@@ -67,6 +67,10 @@ pub record TakenList (b : List ℕ) (at kind v : ℕ) (keys first next : List �
   pub indexed : Indexed (simplices_in kind keys r.count) keys first next r.count
   pub few : r.count ≤ 512
   pub within : 0 < r.count → at + header_bytes + kind * r.count ≤ length b
+
+-- What taking the items of a list record leaves: those, and the offset of the record behind it.
+pub record TakenList (b : List ℕ) (at kind v : ℕ) (keys first next : List ℕ) (r : Taken) : Type 0 where
+  pub items : TakenItems b at kind v keys first next r
   pub ends : r.next ≡ end_at b at kind
 
 -- A record that is refused as a whole: so is the definition's list, and nothing is entered.

@@ -7,7 +7,7 @@ ghost use Rattle.keys.specs.Chained.{Chained};
 ghost use Rattle.lookup.specs.Indexed.{Blank};
 ghost use Rattle.format.specs.Simplex.{Simplex};
 ghost use Rattle.reading_lists.specs.Items.{FacesIn};
-ghost use Rattle.stages.specs.Meaning.{opened_of, size_at, RoomAt, ListOpened, NothingRead, ListTaken, TakenList, FacesFound};
+ghost use Rattle.stages.specs.Meaning.{opened_of, size_at, RoomAt, ListOpened, NothingRead, ListTaken, TakenItems, FacesFound};
 
 use lists::SimplexList;
 use records::Header;
@@ -130,7 +130,7 @@ pub fn find_faces(
     requires chained { Chained face_keys.now face_first.now face_next.now m }
     requires count_in_bounds { (taken.count ≤ length keys.now) × (taken.count ≤ length sides.old) }
     requires count_in_bounds_2 { 0 < taken.count → at + 6 + kind * taken.count ≤ length job.now }
-    ensures { (first next : List ℕ) → TakenList job.now at kind v keys.now first next taken → (faces : List Simplex) → FacesIn kind v faces face_keys.now m → FacesFound job.now at kind v faces keys.now sides.new taken result }
+    ensures { (first next : List ℕ) → TakenItems job.now at kind v keys.now first next taken → (faces : List Simplex) → FacesIn kind v faces face_keys.now m → FacesFound job.now at kind v faces keys.now sides.new taken result }
 {
     let width = kind as usize;
     let count = taken.count;

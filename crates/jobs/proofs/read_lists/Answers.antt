@@ -33,7 +33,7 @@ counted width {keys = keys} {first = first} {next = next} = subst (λ (k : ℕ).
 -- THE EDGES were taken, over no list.
 module _ {b : List ℕ} {at v : ℕ} {keys first next : List ℕ} {edges : Taken} (read : TakenList b at 2 v keys first next edges) where
   edges-told : reading_of (λ _. record { list = simplices_in 2 keys edges.count; next = edges.next }) edges.verdict ≡ read_list small b at 2 v []
-  edges-told = edges-read read [] (no-faces v keys).sound (omega arith)
+  edges-told = edges-read read.items [] (no-faces v keys).sound (omega arith)
 
   edges-refused : {e : Refusal} → edges.verdict ≡ Err e → read_list small b at 2 v [] ≡ refused_by e
   edges-refused is = sym edges-told ∙ ap (reading_of _) is
@@ -48,7 +48,7 @@ module _ {b : List ℕ} {at v : ℕ} {keys first next : List ℕ} {edges : Taken
 
     -- they are the faces of triangles
     under-triangles : FacesIn 3 v (simplices_in 2 keys edges.count) keys edges.count
-    under-triangles = faces-in 3 _ edges-known read.indexed
+    under-triangles = faces-in 3 _ edges-known read.items.indexed
 
 edges : (c : In_ok-edges) → let a = c.args in
     TakenList a.job.now a.at 2 a.v c.read_list.new.keys c.read_list.new.first c.read_list.new.next c.in_ok-edges.edges
@@ -83,7 +83,7 @@ module _ {b : List ℕ} {at v : ℕ} {faces : List Simplex} {keys first next sid
     (read : TakenList b at 3 v keys first next taken) (reads : read_list small b at 3 v faces ≡ accepted (listing_of 3 keys l))
     (found : SidedList faces 3 keys sides taken l) where
   triangles-indexed : Indexed (simplices_in 3 keys l.count) keys first next l.count
-  triangles-indexed = counted 3 (sym found.count) read.indexed
+  triangles-indexed = counted 3 (sym found.count) read.items.indexed
 
   triangles-known : ListSound 3 v faces (simplices_in 3 keys l.count)
   triangles-known = list-known b at 3 v _ _ (omega arith) reads
@@ -112,7 +112,7 @@ module _ (c : After-find_faces-found) (e : let a = c.args in TakenList a.job.now
   looked : let a = c.args in
       FacesFound a.job.now c.in_ok-edges.edges.next 3 a.v (simplices_in 2 c.read_list.new.keys c.in_ok-edges.edges.count)
       c.read_list-2.new.keys c.find_faces-found.new.sides c.in_ok-taken.taken c.find_faces-found.result
-  looked = c.find_faces-found.ensures _ _ t _ (under-triangles e c.in_ok-edges-2.was)
+  looked = c.find_faces-found.ensures _ _ t.items _ (under-triangles e c.in_ok-edges-2.was)
 
 pub returns-in_err-triangles : goal.returns-in_err-triangles
 returns-in_err-triangles c =
@@ -141,7 +141,7 @@ read_tetrahedra-requires c =
           (sym (triangles-end t reads found ∙ ap (λ (n : ℕ). end_at a.job.now n 3) e.ends)) room.tetrahedra;
       s_keys_in_bounds = room.tetrahedron_sides;
       chained = (triangles-indexed t reads found).chained;
-      m_bound = omega (arith, found.count, t.few);
+      m_bound = omega (arith, found.count, t.items.few);
     }
 
 -- THE TETRAHEDRA were read over the triangles.
@@ -193,7 +193,7 @@ returns c =
                 complex-sound v _ _ _ few (edges-known e c.in_ok-edges-2.was) (triangles-known t reads found)
                 (list-known a.job.now c.in_ok-triangles.triangles.next 4 v _ _ (omega arith) listed);
             room = record {
-              edges = omega (arith, e.indexed.chained.keyed, e.indexed.keyed.count);
+              edges = omega (arith, e.items.indexed.chained.keyed, e.items.indexed.keyed.count);
               triangles = omega (arith, indexed.chained.keyed, indexed.keyed.count);
               tetrahedra = omega (arith, h.within _ fine, (h.keyed _ fine).count);
               triangle_sides =
@@ -215,7 +215,7 @@ returns c =
                     c.read_tetrahedra.auto.s_sides,
                   );
             };
-            edges = e.indexed.keyed;
+            edges = e.items.indexed.keyed;
             triangles = indexed.keyed;
             tetrahedra = h.keyed _ fine;
             triangle_sides = found.sided;
@@ -224,5 +224,5 @@ returns c =
       linked = λ r is.
           subst
           (λ (x : ListsRead). Indexed (simplices_in 2 c.read_list.new.keys x.counts.edges) c.read_list.new.keys c.read_list.new.first c.read_list.new.next x.counts.edges)
-          (same_read is) e.indexed;
+          (same_read is) e.items.indexed;
     }

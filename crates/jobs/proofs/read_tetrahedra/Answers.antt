@@ -24,11 +24,11 @@ taken c =
 pub returns : goal.returns
 returns c = λ faces under.
     let t = taken (goal.at.returns c).In_ok-taken in
-    let found = c.find_faces.ensures _ _ t faces under in
+    let found = c.find_faces.ensures _ _ t.items faces under in
     record {
       reads = found.reads;
       keyed = λ l f.
-          subst (λ (n : ℕ). Keyed (simplices_in 4 c.read_list.new.keys n) c.read_list.new.keys n) (sym (found.found l f).count) t.indexed.keyed;
-      within = λ l f. omega (arith, (found.found l f).count, t.indexed.chained.keyed);
+          subst (λ (n : ℕ). Keyed (simplices_in 4 c.read_list.new.keys n) c.read_list.new.keys n) (sym (found.found l f).count) t.items.indexed.keyed;
+      within = λ l f. omega (arith, (found.found l f).count, t.items.indexed.chained.keyed);
       sided = λ l f. (found.found l f).sided;
     }
