@@ -217,6 +217,15 @@ module _ {r : Reading reader.Job} {b e_keys t_keys s_keys t_sides s_sides : List
       ∙ ap (λ (x : Reading format.Complex). x and_then λ Y. accepted (asking Y)) taken.reading
       ∙ reading-then done (λ after. complex_in j.head.v after.counts e_keys' t_keys' s_keys') asking
 
+  pub edits-refused : (x : Refusal) → done ≡ Err x → Told r e_keys' t_keys' s_keys' t_sides' s_sides' (Err x)
+  edits-refused x is = record {
+    set = u.set;
+    is = edited ∙ ap (reading_of (λ after. asking (complex_in j.head.v after.counts e_keys' t_keys' s_keys'))) is;
+    held = λ k f. absurd (not_read f);
+    marks = λ k f. absurd (not_read f);
+    head = λ k f. absurd (not_read f);
+  }
+
   pub edits-told : (after : Edited) (next : ℕ) → done ≡ Ok after
       → Told r e_keys' t_keys' s_keys' t_sides' s_sides' (Ok (record { head = j.head; counts = after.counts; marks = after.marks; next = next }))
   edits-told after next is = record {
