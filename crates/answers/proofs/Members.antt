@@ -1,9 +1,10 @@
 -- The members of a chain, written one behind the other: each stands at the front of what is left to put.
-use Prim.Native.Nat.{ℕ, ◌+◌, ◌-◌, ◌≤◌, ◌<◌}
-use mathlib.Core.Path.{◌≡◌, refl, ◌∙◌, ap}
-use mathlib.Core.Bool.{true, false}
+use Prim.Native.Nat.{ℕ, suc, ◌+◌, ◌-◌, ◌≤◌, ◌<◌}
+use mathlib.Core.Path.{◌≡◌, refl, sym, ◌∙◌, ap}
+use mathlib.Core.Bool.{Bool, true, false, cond}
 use mathlib.Core.List.{List, [], ◌∷◌, ◌++◌}
 use native.Mathlib.Omega.{arith}
+use native.Mathlib.Nat.{add-zero}
 use native.Mathlib.Numerals.{add-one}
 use lib.ListN.{length, get_or, set, drop}
 use lib.Seq.{drop-cons}
@@ -14,6 +15,19 @@ use Rattle.writer.specs.Splice.{splice}
 use Rattle.writer.specs.Meaning.{simplex_bytes, list_bytes, header_of_size, Put}
 use Rattle.writer.proofs.Runs.{put-byte, put-long}
 use Rattle.writer.proofs.Records.{splice-before, record-put}
+
+-- the members among lists that stand one behind the other
+pub members-append : (k : ℕ) (c : Chain) (a b : List Simplex) → members_from k c (a ++ b) ≡ members_from k c a ++ members_from (k + length a) c b
+unfolding members_from
+members-append k c [] b = ap (λ n. members_from n c b) (sym (add-zero k))
+members-append k c (s ∷ a) b =
+    let e : suc k + length a ≡ k + length (s ∷ a) = omega arith in
+    go (c k) (members-append (suc k) c a b ∙ ap (λ n. members_from (suc k) c a ++ members_from n c b) e)
+  where
+    go : (x : Bool) → members_from (suc k) c (a ++ b) ≡ members_from (suc k) c a ++ members_from (k + length (s ∷ a)) c b
+        → cond x (s ∷ members_from (suc k) c (a ++ b)) (members_from (suc k) c (a ++ b)) ≡ cond x (s ∷ members_from (suc k) c a) (members_from (suc k) c a) ++ members_from (k + length (s ∷ a)) c b
+    go true ih = ap (◌∷◌ s) ih
+    go false ih = ih
 
 module _ (c : Chain) (l : List Simplex) (i : ℕ) (s d : Simplex) (h : i < length l) (e : get_or l i d ≡ s) where
   pub next-member : c i ≡ true → list_bytes (members_from i c (drop i l)) ≡ simplex_bytes s ++ list_bytes (members_from (i + 1) c (drop (i + 1) l))

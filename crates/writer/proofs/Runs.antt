@@ -16,6 +16,27 @@ use Rattle.format.specs.Writing.{places_from, position_bytes}
 use Rattle.writer.specs.Splice.{splice, splice-nothing, splice-more, splice-byte, length-splice}
 use Rattle.writer.specs.Meaning.{vertex_byte, simplex_bytes, list_bytes, Put}
 
+-- Lists one behind the other: their bytes, places and positions are so too.
+pub list_bytes-append : (k l : List Simplex) → list_bytes (k ++ l) ≡ list_bytes k ++ list_bytes l
+unfolding list_bytes
+list_bytes-append [] l = refl
+list_bytes-append (s ∷ k) l = ap (◌++◌ (simplex_bytes s)) (list_bytes-append k l) ∙ sym (append_assoc (simplex_bytes s) (list_bytes k) (list_bytes l))
+
+pub places-append : (k : ℕ) (marks more : List Bool) → places_from k (marks ++ more) ≡ places_from k marks ++ places_from (k + length marks) more
+unfolding places_from
+places-append k [] more = ap (λ n. places_from n more) (sym (add-zero k))
+places-append k (true ∷ marks) more =
+    let e : suc k + length marks ≡ k + length (true ∷ marks) = omega arith in
+    ap (◌∷◌ k) (places-append (suc k) marks more ∙ ap (λ n. places_from (suc k) marks ++ places_from n more) e)
+places-append k (false ∷ marks) more =
+    let e : suc k + length marks ≡ k + length (false ∷ marks) = omega arith in
+    places-append (suc k) marks more ∙ ap (λ n. places_from (suc k) marks ++ places_from n more) e
+
+pub positions-append : (k l : List ℕ) → position_bytes (k ++ l) ≡ position_bytes k ++ position_bytes l
+unfolding position_bytes
+positions-append [] l = refl
+positions-append (p ∷ k) l = ap (◌++◌ (u16_bytes p)) (positions-append k l) ∙ sym (append_assoc (u16_bytes p) (position_bytes k) (position_bytes l))
+
 pub put-nothing : (l : List ℕ) (at : ℕ) → Put l at [] l at
 put-nothing l at = record { lent = sym (splice-nothing l at); next = sym (add-zero at) }
 
